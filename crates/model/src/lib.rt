@@ -1,0 +1,1 @@
+// The definitions are in specs/: document 01 and nothing else.
