@@ -1,0 +1,46 @@
+-- What unfolds when a case is computed, and an edit with its finished forms computed by runs of pages.
+use mathlib.Core.Path.{_≡_, ap, _∙_}
+use mathlib.Core.List.{List, headD, map}
+use Prim.Native.Nat.{ℕ, _<_}
+use lib.Dec.{lit<}
+use lib.ListN.{getD, length, replicate, take, drop, set}
+use lib.Seq.{sets}
+use Rattle.model.specs.Numbers.{every, joined, each, member, distinct, digit, pack}
+use Rattle.model.specs.Layout.{rv64, piecePages}
+use Rattle.model.specs.Register.{ppnOf, wpriOf, sdidOf, modeOf, registerOf, isBare, registerOk}
+use Rattle.model.specs.Entry.{infoOf, typeOf, zeroOf, decode, encode, fieldOf, clean}
+use Rattle.model.specs.Frame.{Frame, pageOf, blocks, space, lent, boundsOk, frameOk, indexOf, wordAt}
+use Rattle.model.specs.Walk.{pn0, pn1, pn2, pieceOf, rootPages, entryPage, entryPlace, l2Word, entryAt, found, walk}
+use Rattle.model.specs.Access.{needOf, originalOf, causeOf, columnOf, mayRows, may, judge}
+use Rattle.model.specs.Lookup.{isMachine, reads, lookup}
+use Rattle.model.specs.Sound.{isOpen, openRegisters, linkOf, roots, sdids, soundRegister, soundSlots, freeOf, linksIn, used, cleanPage, soundEntry, soundRoot, soundTable, sound, freePages}
+use Rattle.model.specs.Forms.{Request, permOf, inRange, firstGib, gibs, afterIn, after, allAre, gibFirst, gibIsOne, piecesAreOne, piecesInfo, formIn, l1Word, formsIn, formsOf, forms}
+use Rattle.model.specs.Stores.{apply, needsPage, storeAt, storeL2, ifChanged, ifChangedL2, newPages, sameTable, newTable, linkTable, blockStores, storesFrom}
+use Rattle.model.specs.Fence.{inRoot, oneL1Store, fenceFor}
+use Rattle.model.specs.Calls.{Outcome, firstMet, slotAt, badRange, meetsLent, registerFor, rootOf, refuse, openRefusal, openAt, openSlot, closeRefusal, closeSlot, finished, editRefusalWith, storeListWith, editRefusal, storeList, made, editWith, editSlot}
+use Rattle.laws.proofs.PageRuns.{covers, misses, unmet, runIs, gibBy, formBy, formsInBy, formsBy, quickForms, edit-quick}
+use Rattle.cases.specs.Bench.{edits}
+
+-- to unfold this is to unfold all that it names
+unfoldable pub compute : Unit {0}
+unfolding every joined each member distinct digit pack ppnOf wpriOf sdidOf modeOf registerOf isBare registerOk infoOf typeOf zeroOf decode encode fieldOf clean pageOf blocks space lent boundsOk frameOk indexOf wordAt pn0 pn1 pn2 pieceOf rootPages entryPage entryPlace l2Word entryAt found walk needOf originalOf causeOf columnOf mayRows may judge isMachine reads lookup isOpen openRegisters linkOf roots sdids soundRegister soundSlots freeOf linksIn used cleanPage soundEntry soundRoot soundTable sound freePages permOf inRange firstGib gibs afterIn after allAre gibFirst gibIsOne piecesAreOne piecesInfo formIn l1Word formsIn formsOf forms apply needsPage storeAt storeL2 ifChanged ifChangedL2 newPages sameTable newTable linkTable blockStores storesFrom inRoot oneL1Store fenceFor firstMet slotAt badRange meetsLent registerFor rootOf refuse openRefusal openAt openSlot closeRefusal closeSlot finished editRefusalWith storeListWith editRefusal storeList made editWith editSlot headD covers misses unmet runIs gibBy formBy formsInBy formsBy quickForms
+compute = tt
+
+abbrev pub pos : 0 < piecePages rv64
+pos = lit< tt
+
+module _ (paw first pages : ℕ) where
+  abbrev B : Frame
+  B = record { layout = rv64; paw = paw; first = first; pages = pages }
+
+  -- the edit, with its finished forms computed by runs of pages
+  abbrev pub quick : Outcome → Request → ℕ → Outcome
+  quick o q limit = editWith B (o .memory) (o .slots) q (quickForms B (o .memory) q (rootOf B (o .slots) q) pos) limit
+
+  -- from the state in numbers and the quick edit to the edit
+  pub run : {o o′ o″ : Outcome} (q : Request) (limit : ℕ) → o ≡ o′ → quick o′ q limit ≡ o″ → edits B o q limit ≡ o″
+  run {o} {o′} q limit s h = ap (λ (x : Outcome). edits B x q limit) s ∙ edit-quick B pos (o′ .memory) (o′ .slots) q limit ∙ h
+
+  -- the same for the part of the outcome that f reads
+  pub runs {ℓ} : {A : Type ℓ} (f : Outcome → A) {o o′ : Outcome} {a : A} (q : Request) (limit : ℕ) → o ≡ o′ → f (quick o′ q limit) ≡ a → f (edits B o q limit) ≡ a
+  runs f {o} {o′} q limit s h = ap f (run {o″ = quick o′ q limit} q limit s mathlib.Core.Path.refl) ∙ h

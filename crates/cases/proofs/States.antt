@@ -1,0 +1,210 @@
+-- Each state that the cases start from, in numbers: what document 01 says of it, and that the definitions compute it.
+use mathlib.Core.Path.{_≡_, refl, ap, _∙_}
+use mathlib.Core.Bool.{true, false}
+use mathlib.Core.List.{List, [], _∷_}
+use Prim.Native.Nat.{ℕ}
+use lib.ListN.{replicate, set}
+use lib.Seq.{sets}
+use Rattle.model.specs.Frame.{Frame}
+use Rattle.model.specs.Forms.{Request}
+use Rattle.model.specs.Fence.{Fence, noFence, domainFence, addressFence}
+use Rattle.model.specs.Calls.{Outcome, Reply, opened, edited}
+use Rattle.cases.specs.Bench.{board, smallBoard, none, rx, readWrite, ask, most, opens, edits, blank, new, afterC, afterF, afterG, afterH, cut512, cut513, small0, small1, small2, afterL, afterM, afterM2, withZero, unfinished, afterO}
+use Rattle.cases.proofs.Compute.{compute, quick, run}
+
+-- ---- slots and memory in numbers
+
+unfoldable pub slots5 : List ℕ
+slots5 = set (replicate 8 0) 0 0x1140000000080000
+
+abbrev left : Reply → List ℕ → List ℕ → Fence → Outcome
+left r m s f = record { reply = r; memory = m; slots = s; fence = f }
+
+-- the L2 entries of a GiB of nothing, by pieces: 31 of them from b on
+abbrev nothing : ℕ → List ℕ → List ℕ
+nothing b m = sets m b (replicate 31 0x0000600000000000)
+
+-- ---- the new domain
+
+unfoldable pub memoryNew : List ℕ
+memoryNew = replicate 8192 0
+
+unfoldable pub outcomeNew : Outcome
+outcomeNew = left opened memoryNew slots5 noFence
+
+pub new-is : new ≡ outcomeNew
+unfolding compute new memoryNew slots5 outcomeNew
+new-is = refl
+
+-- ---- C, F, G, H
+
+unfoldable pub memoryC : List ℕ
+memoryC = nothing 33 (set (set (replicate 8192 0) 32 0x0000400000080001) 512 0x2)
+
+unfoldable pub outcomeC : Outcome
+outcomeC = left (edited 544 true) memoryC slots5 (domainFence 5)
+
+C-run : quick 32 0x80000 16 outcomeNew (ask 0x40000000 0x1000 readWrite) most ≡ outcomeC
+unfolding compute slots5 memoryNew outcomeNew memoryC outcomeC
+C-run = refl
+
+pub C-is : afterC ≡ outcomeC
+unfolding afterC
+C-is = run 32 0x80000 16 (ask 0x40000000 0x1000 readWrite) most new-is C-run
+
+unfoldable pub outcomeF : Outcome
+unfolding memoryC
+outcomeF = left (edited 1 true) (set memoryC 512 0x1002) slots5 (addressFence 0x40003000 5)
+
+F-run : quick 32 0x80000 16 outcomeC (ask 0x40003000 0x1000 rx) most ≡ outcomeF
+unfolding compute slots5 memoryC outcomeC outcomeF
+F-run = refl
+
+pub F-is : afterF ≡ outcomeF
+unfolding afterF
+F-is = run 32 0x80000 16 (ask 0x40003000 0x1000 rx) most C-is F-run
+
+unfoldable pub memoryG : List ℕ
+unfolding memoryC
+memoryG = sets memoryC 32 (replicate 32 0x0000200000000000)
+
+unfoldable pub outcomeG : Outcome
+outcomeG = left (edited 32 true) memoryG slots5 (domainFence 5)
+
+G-run : quick 32 0x80000 16 outcomeC (ask 0x40000000 0x40000000 readWrite) most ≡ outcomeG
+unfolding compute slots5 memoryC outcomeC memoryG outcomeG
+G-run = refl
+
+pub G-is : afterG ≡ outcomeG
+unfolding afterG
+G-is = run 32 0x80000 16 (ask 0x40000000 0x40000000 readWrite) most C-is G-run
+
+unfoldable pub outcomeH : Outcome
+unfolding memoryG
+outcomeH = left (edited 32 true) (set (sets memoryG 33 (replicate 31 0x00006000AAAAAAAA)) 32 0x00006000AAAAAAA2) slots5 (domainFence 5)
+
+H-run : quick 32 0x80000 16 outcomeG (ask 0x40200000 0x200000 none) most ≡ outcomeH
+unfolding compute slots5 memoryG outcomeG outcomeH
+H-run = refl
+
+pub H-is : afterH ≡ outcomeH
+unfolding afterH
+H-is = run 32 0x80000 16 (ask 0x40200000 0x200000 none) most G-is H-run
+
+-- ---- D
+
+unfoldable pub outcome512 : Outcome
+outcome512 = left (edited 512 false) (set (replicate 8192 0) 512 0x2) slots5 (domainFence 5)
+
+D512-run : quick 32 0x80000 16 outcomeNew (ask 0x40000000 0x1000 readWrite) 512 ≡ outcome512
+unfolding compute slots5 memoryNew outcomeNew outcome512
+D512-run = refl
+
+pub D512-is : cut512 ≡ outcome512
+unfolding cut512
+D512-is = run 32 0x80000 16 (ask 0x40000000 0x1000 readWrite) 512 new-is D512-run
+
+unfoldable pub outcome513 : Outcome
+outcome513 = left (edited 513 false) (set (set (replicate 8192 0) 512 0x2) 32 0x0000400000080001) slots5 (domainFence 5)
+
+D513-run : quick 32 0x80000 16 outcomeNew (ask 0x40000000 0x1000 readWrite) 513 ≡ outcome513
+unfolding compute slots5 memoryNew outcomeNew outcome513
+D513-run = refl
+
+pub D513-is : cut513 ≡ outcome513
+unfolding cut513
+D513-is = run 32 0x80000 16 (ask 0x40000000 0x1000 readWrite) 513 new-is D513-run
+
+-- ---- K, on two pages
+
+unfoldable pub outcomeK0 : Outcome
+outcomeK0 = left opened (replicate 1024 0) slots5 noFence
+
+pub K0-is : small0 ≡ outcomeK0
+unfolding compute small0 slots5 outcomeK0
+K0-is = refl
+
+unfoldable pub outcomeK1 : Outcome
+outcomeK1 = left (edited 544 true) (nothing 33 (set (set (replicate 1024 0) 32 0x0000400000080001) 512 0x2)) slots5 (domainFence 5)
+
+K1-run : quick 32 0x80000 2 outcomeK0 (ask 0x40000000 0x1000 readWrite) most ≡ outcomeK1
+unfolding compute slots5 outcomeK0 outcomeK1
+K1-run = refl
+
+pub K1-is : small1 ≡ outcomeK1
+unfolding small1
+K1-is = run 32 0x80000 2 (ask 0x40000000 0x1000 readWrite) most K0-is K1-run
+
+unfoldable pub outcomeK2 : Outcome
+outcomeK2 = left (edited 32 true) (set (replicate 1024 0) 512 0x2) slots5 (domainFence 5)
+
+K2-run : quick 32 0x80000 2 outcomeK1 (ask 0x40000000 0x1000 none) most ≡ outcomeK2
+unfolding compute slots5 outcomeK1 outcomeK2
+K2-run = refl
+
+pub K2-is : small2 ≡ outcomeK2
+unfolding small2
+K2-is = run 32 0x80000 2 (ask 0x40000000 0x1000 none) most K1-is K2-run
+
+-- ---- L to O
+
+unfoldable pub outcomeL : Outcome
+outcomeL = left (edited 544 true) (nothing 33 (set (set (replicate 8192 0) 32 0x0000400000080001) 517 0x0000002000000000)) slots5 (domainFence 5)
+
+L-run : quick 32 0x80000 16 outcomeNew (ask 0x40059000 0x1000 readWrite) most ≡ outcomeL
+unfolding compute slots5 memoryNew outcomeNew outcomeL
+L-run = refl
+
+pub L-is : afterL ≡ outcomeL
+unfolding afterL
+L-is = run 32 0x80000 16 (ask 0x40059000 0x1000 readWrite) most new-is L-run
+
+unfoldable pub outcomeM : Outcome
+outcomeM = left (edited 64 true) (nothing 64 (nothing 97 (sets (replicate 8192 0) 95 (0x0000600080000000 ∷ 0x0000600000000002 ∷ [])))) slots5 (domainFence 5)
+
+M-run : quick 32 0x80000 16 outcomeNew (ask 0xBFE00000 0x400000 readWrite) most ≡ outcomeM
+unfolding compute slots5 memoryNew outcomeNew outcomeM
+M-run = refl
+
+pub M-is : afterM ≡ outcomeM
+unfolding afterM
+M-is = run 32 0x80000 16 (ask 0xBFE00000 0x400000 readWrite) most new-is M-run
+
+unfoldable pub outcomeM2 : Outcome
+outcomeM2 =
+    left (edited 1088 true)
+    (nothing 64 (nothing 97 (set (set (sets (replicate 8192 0) 95 (0x0000400000080001 ∷ 0x0000400000080002 ∷ [])) 1023 0x2000000000000000) 1024 0x2)))
+    slots5 (domainFence 5)
+
+M2-run : quick 32 0x80000 16 outcomeNew (ask 0xBFFFF000 0x2000 readWrite) most ≡ outcomeM2
+unfolding compute slots5 memoryNew outcomeNew outcomeM2
+M2-run = refl
+
+pub M2-is : afterM2 ≡ outcomeM2
+unfolding afterM2
+M2-is = run 32 0x80000 16 (ask 0xBFFFF000 0x2000 readWrite) most new-is M2-run
+
+unfoldable pub outcomeN : Outcome
+outcomeN = left opened (replicate 8192 0) (set (set (replicate 8 0) 0 0x1140000000080000) 1 0x1000000000080001) noFence
+
+N-run : opens board outcomeNew 1 0 ≡ outcomeN
+unfolding compute slots5 memoryNew outcomeNew outcomeN
+N-run = refl
+
+pub N-is : withZero ≡ outcomeN
+unfolding withZero
+N-is = ap (λ (o : Outcome). opens board o 1 0) new-is ∙ N-run
+
+unfoldable pub outcomeO : Outcome
+outcomeO =
+    left (edited 32 true)
+    (sets (set (sets (replicate 8192 0) 33 (replicate 31 0x00006000AAAAAAAA)) 32 0x00006000AAAAAAA2) 512 (replicate 512 0x2222222222222222))
+    slots5 (domainFence 5)
+
+O-run : quick 32 0x80000 16 unfinished (ask 0x40200000 0x200000 none) most ≡ outcomeO
+unfolding compute unfinished slots5 outcomeO
+O-run = refl
+
+pub O-is : afterO ≡ outcomeO
+unfolding afterO
+O-is = run 32 0x80000 16 {o = unfinished} (ask 0x40200000 0x200000 none) most refl O-run

@@ -1,0 +1,149 @@
+-- The board, the domains and the edits that the cases speak of.
+use mathlib.Core.List.{List, [], _∷_, map}
+use Prim.Native.Nat.{ℕ}
+use lib.ListN.{getD, length, replicate, set}
+use lib.Seq.{sets}
+use Rattle.model.specs.Layout.{rv64}
+use Rattle.model.specs.Frame.{Frame, wordAt}
+use Rattle.model.specs.Access.{Kind, Answer}
+use Rattle.model.specs.Lookup.{Privilege, supervisor, lookup}
+use Rattle.model.specs.Sound.{Slot, emptySlot, roots, freePages}
+use Rattle.model.specs.Forms.{Request}
+use Rattle.model.specs.Stores.{Store}
+use Rattle.model.specs.Fence.{noFence}
+use Rattle.model.specs.Calls.{Outcome, opened, openSlot, closeSlot, editSlot, storeList}
+
+-- ---- the board: "PAW 32, 16 pages from page 0x80000", and one of two pages for case K
+
+abbrev pub board : Frame
+board = record { layout = rv64; paw = 32; first = 0x80000; pages = 16 }
+
+abbrev pub smallBoard : Frame
+smallBoard = record { layout = rv64; paw = 32; first = 0x80000; pages = 2 }
+
+-- ---- what is asked
+
+abbrev pub none : ℕ
+none = 0
+
+abbrev pub rx : ℕ
+rx = 1
+
+abbrev pub readWrite : ℕ
+readWrite = 2
+
+-- an edit of slot 0
+abbrev pub ask : ℕ → ℕ → ℕ → Request
+ask start size permission = record { slot = 0; start = start; size = size; permission = permission }
+
+-- a limit that lets every edit finish
+abbrev pub most : ℕ
+most = 1536
+
+module _ (F : Frame) where
+  abbrev pub opens : Outcome → ℕ → ℕ → Outcome
+  opens o s sdid = openSlot F (o .memory) (o .slots) s sdid
+
+  abbrev pub edits : Outcome → Request → ℕ → Outcome
+  edits o q limit = editSlot F (o .memory) (o .slots) q limit
+
+abbrev pub closes : Outcome → ℕ → Outcome
+closes o s = closeSlot board (o .memory) (o .slots) s
+
+-- a lookup by slot 0's register, outside M mode
+abbrev pub look : Outcome → ℕ → Kind → Answer
+look o address kind = lookup board (o .memory) (getD (o .slots) 0 0) supervisor address kind
+
+-- the register of slot s, L2 entry b of slot 0's root, entry i of its first L1 page
+abbrev pub registerAt : Outcome → ℕ → ℕ
+registerAt o s = getD (o .slots) s 0
+
+abbrev pub l2 : Outcome → ℕ → ℕ
+l2 o b = wordAt board (o .memory) 0x80000 b
+
+abbrev pub l1 : Outcome → ℕ → ℕ
+l1 o i = wordAt board (o .memory) 0x80001 i
+
+abbrev pub freePagesOf : Outcome → ℕ
+freePagesOf o = length (freePages board (o .memory) (roots board (o .slots)))
+
+-- the words that the whole edit stores, in order
+abbrev pub wordsStored : Outcome → Request → List ℕ
+wordsStored o q = map (λ s. s .word) (storeList board (o .memory) (o .slots) q)
+
+-- ---- the states that the cases start from
+
+-- memory of n words and slots, all zero
+abbrev pub blank : ℕ → Outcome
+blank n = record { reply = opened; memory = replicate n 0; slots = replicate 8 emptySlot; fence = noFence }
+
+-- "slot 0 opened with SDID 5"
+unfoldable pub new : Outcome
+new = opens board (blank 8192) 0 5
+
+unfoldable pub afterC : Outcome
+afterC = edits board new (ask 0x40000000 0x1000 readWrite) most
+
+unfoldable pub afterF : Outcome
+afterF = edits board afterC (ask 0x40003000 0x1000 rx) most
+
+unfoldable pub afterG : Outcome
+afterG = edits board afterC (ask 0x40000000 0x40000000 readWrite) most
+
+unfoldable pub afterH : Outcome
+afterH = edits board afterG (ask 0x40200000 0x200000 none) most
+
+-- D: C with limits that cut it
+unfoldable pub cut512 : Outcome
+cut512 = edits board new (ask 0x40000000 0x1000 readWrite) 512
+
+unfoldable pub cut513 : Outcome
+cut513 = edits board new (ask 0x40000000 0x1000 readWrite) 513
+
+-- K: on two pages
+unfoldable pub small0 : Outcome
+small0 = opens smallBoard (blank 1024) 0 5
+
+unfoldable pub small1 : Outcome
+small1 = edits smallBoard small0 (ask 0x40000000 0x1000 readWrite) most
+
+unfoldable pub small2 : Outcome
+small2 = edits smallBoard small1 (ask 0x40000000 0x1000 none) most
+
+-- L: one page whose pn[1] is 5 and whose pn[0] is 9
+unfoldable pub afterL : Outcome
+afterL = edits board new (ask 0x40059000 0x1000 readWrite) most
+
+-- M: a range across the GiB boundary at 0xC0000000: two whole pieces; two pages
+unfoldable pub afterM : Outcome
+afterM = edits board new (ask 0xBFE00000 0x400000 readWrite) most
+
+unfoldable pub afterM2 : Outcome
+afterM2 = edits board new (ask 0xBFFFF000 0x2000 readWrite) most
+
+-- N: slot 1 opened with SDID 0
+unfoldable pub withZero : Outcome
+withZero = opens board new 1 0
+
+-- O: a table in unfinished form: GiB 1 is all rw, block 32 by an L1 page and the others by 1G types
+unfoldable pub unfinished : Outcome
+unfinished =
+    record {
+      reply = opened;
+      memory = sets (set (sets (replicate 8192 0) 33 (replicate 31 0x0000200000000000)) 32 0x0000400000080001) 512 (replicate 512 0x2222222222222222);
+      slots = set (replicate 8 emptySlot) 0 0x1140000000080000;
+      fence = noFence;
+    }
+
+unfoldable pub afterO : Outcome
+afterO = edits board unfinished (ask 0x40200000 0x200000 none) most
+
+-- P: case C's table, but that INFO of L2 entry 32 has bit 32 set: page 0x100080001, which is not lent
+unfoldable pub topDigit : Outcome
+topDigit =
+    record {
+      reply = opened;
+      memory = set (set (replicate 8192 0) 512 0x2) 32 0x0000400100080001;
+      slots = set (replicate 8 emptySlot) 0 0x1140000000080000;
+      fence = noFence;
+    }

@@ -1,0 +1,135 @@
+-- The cases. A line `-- CASE. what is asked` stands above each statement, whose right side is what is answered.
+-- A to K are document 01's; those that it marks * are A to C and E to J. L to P are beside them.
+use mathlib.Core.Path.{_≡_}
+use mathlib.Core.Bool.{true, false}
+use mathlib.Core.List.{List, [], _∷_}
+use Prim.Native.Nat.{ℕ}
+use lib.ListN.{take, drop, replicate}
+use Rattle.model.specs.Layout.{rv64}
+use Rattle.model.specs.Frame.{pageOf}
+use Rattle.model.specs.Walk.{pn0, pn1, pn2}
+use Rattle.model.specs.Access.{itself, tableRead, fetch, load, store, allowed, fault}
+use Rattle.model.specs.Fence.{noFence, domainFence, addressFence}
+use Rattle.model.specs.Calls.{refusedWith, opened, edited}
+use Rattle.cases.specs.Bench.{board, smallBoard, none, rx, readWrite, ask, most, opens, edits, closes, look, registerAt, l2, l1, freePagesOf, wordsStored, new, afterC, afterF, afterG, afterH, cut512, cut513, small0, small1, small2, afterL, afterM, afterM2, withZero, unfinished, afterO, topDigit}
+
+-- every one of these statements holds
+pub data AllOf : List (Type 0) → Type 1 where
+  done : AllOf []
+  both : {C : Type 0} {Cs : List (Type 0)} → C → AllOf Cs → AllOf (C ∷ Cs)
+
+abbrev pub cases : List (Type 0)
+cases =
+    -- A. register of the new domain
+    (registerAt new 0 ≡ 0x1140000000080000)
+    -- A. load 0x40000000 on the new domain
+    ∷ (look new 0x40000000 (itself load) ≡ fault 5)
+    -- B. pn[2] of 0x40123456
+    ∷ (pn2 (pageOf 0x40123456) ≡ 32)
+    -- B. pn[1] of 0x40123456
+    ∷ (pn1 rv64 (pageOf 0x40123456) ≡ 18)
+    -- B. pn[0] of 0x40123456
+    ∷ (pn0 rv64 (pageOf 0x40123456) ≡ 3)
+    -- C. edit: rw, 0x40000000, length 0x1000, limit 1536
+    ∷ (afterC .reply ≡ edited 544 true)
+    -- C. its fence
+    ∷ (afterC .fence ≡ domainFence 5)
+    -- C. L2 entry 32
+    ∷ (l2 afterC 32 ≡ 0x0000400000080001)
+    -- C. L2 entries 33 to 63
+    ∷ (take 31 (drop 33 (afterC .memory)) ≡ replicate 31 0x0000600000000000)
+    -- D. C with limit 512
+    ∷ (cut512 .reply ≡ edited 512 false)
+    -- D. then load 0x40000000
+    ∷ (look cut512 0x40000000 (itself load) ≡ fault 5)
+    -- D. C with limit 513
+    ∷ (cut513 .reply ≡ edited 513 false)
+    -- D. then load 0x40000000
+    ∷ (look cut513 0x40000000 (itself load) ≡ allowed)
+    -- D. and load 0x40001000
+    ∷ (look cut513 0x40001000 (itself load) ≡ fault 5)
+    -- D. C again from there
+    ∷ (edits board cut513 (ask 0x40000000 0x1000 readWrite) most .reply ≡ edited 31 true)
+    -- E. after C, store 0x40000FFF
+    ∷ (look afterC 0x40000FFF (itself store) ≡ allowed)
+    -- E. fetch there
+    ∷ (look afterC 0x40000FFF (itself fetch) ≡ fault 1)
+    -- E. page-table read for a store at 0x40001000
+    ∷ (look afterC 0x40001000 (tableRead store) ≡ fault 7)
+    -- F. after C, L1 entry 0
+    ∷ (l1 afterC 0 ≡ 0x2)
+    -- F. edit: rx, 0x40003000, one page
+    ∷ (afterF .reply ≡ edited 1 true)
+    -- F. L1 entry 0
+    ∷ (l1 afterF 0 ≡ 0x1002)
+    -- F. its fence
+    ∷ (afterF .fence ≡ addressFence 0x40003000 5)
+    -- G. after C, edit: rw, 0x40000000, length 0x40000000
+    ∷ (afterG .reply ≡ edited 32 true)
+    -- G. the words stored
+    ∷ (wordsStored afterC (ask 0x40000000 0x40000000 readWrite) ≡ replicate 32 0x0000200000000000)
+    -- G. free pages
+    ∷ (freePagesOf afterG ≡ 15)
+    -- H. after G, edit: none, 0x40200000, length 0x200000
+    ∷ (afterH .reply ≡ edited 32 true)
+    -- H. L2 entry 32
+    ∷ (l2 afterH 32 ≡ 0x00006000AAAAAAA2)
+    -- I. on the new domain, edit: rw, 0xFFFFF000, length 0x1000
+    ∷ (edits board new (ask 0xFFFFF000 0x1000 readWrite) most .reply ≡ edited 544 true)
+    -- I. the same, length 0x2000
+    ∷ (edits board new (ask 0xFFFFF000 0x2000 readWrite) most .reply ≡ refusedWith 5)
+    -- I. load 0x100000000
+    ∷ (look new 0x100000000 (itself load) ≡ fault 5)
+    -- J. on the new domain, edit: rw, 0x8000F000, one page
+    ∷ (edits board new (ask 0x8000F000 0x1000 readWrite) most .reply ≡ refusedWith 6)
+    -- J. rw, 0x80010000, one page
+    ∷ (edits board new (ask 0x80010000 0x1000 readWrite) most .reply ≡ edited 544 true)
+    -- J. none, 0x8000F000, one page
+    ∷ (edits board new (ask 0x8000F000 0x1000 none) most .reply ≡ edited 0 true)
+    -- K. two pages lent, edit: rw, 0x40000000, one page
+    ∷ (small1 .reply ≡ edited 544 true)
+    -- K. then rw, 0x42000000, one page
+    ∷ (edits smallBoard small1 (ask 0x42000000 0x1000 readWrite) most .reply ≡ refusedWith 7)
+    -- K. none on the first
+    ∷ (small2 .reply ≡ edited 32 true)
+    -- K. then the second
+    ∷ (edits smallBoard small2 (ask 0x42000000 0x1000 readWrite) most .reply ≡ edited 544 true)
+    -- L. pn[1] 5 and pn[0] 9, edit: rw, 0x40059000, one page
+    ∷ (afterL .reply ≡ edited 544 true)
+    -- L. L1 entry 5
+    ∷ (l1 afterL 5 ≡ 0x0000002000000000)
+    -- L. load 0x40059FFF
+    ∷ (look afterL 0x40059FFF (itself load) ≡ allowed)
+    -- L. load 0x40095000, where pn[1] is 9 and pn[0] is 5
+    ∷ (look afterL 0x40095000 (itself load) ≡ fault 5)
+    -- M. across a GiB boundary, edit: rw, 0xBFE00000, length 0x400000
+    ∷ (afterM .reply ≡ edited 64 true)
+    -- M. L2 entry 95
+    ∷ (l2 afterM 95 ≡ 0x0000600080000000)
+    -- M. L2 entry 96
+    ∷ (l2 afterM 96 ≡ 0x0000600000000002)
+    -- M. edit: rw, 0xBFFFF000, two pages
+    ∷ (afterM2 .reply ≡ edited 1088 true)
+    -- M. L2 entries 95 and 96
+    ∷ (take 2 (drop 95 (afterM2 .memory)) ≡ 0x0000400000080001 ∷ 0x0000400000080002 ∷ [])
+    -- N. open slot 1 with SDID 0
+    ∷ (registerAt withZero 1 ≡ 0x1000000000080001)
+    -- N. open slot 2 with SDID 0
+    ∷ (opens board withZero 2 0 .reply ≡ refusedWith 8)
+    -- N. close slot 1: the fence
+    ∷ (closes withZero 1 .fence ≡ domainFence 0)
+    -- N. two pages lent and none free, open slot 1 with SDID 5, which slot 0 holds
+    ∷ (opens smallBoard small1 1 5 .reply ≡ refusedWith 8)
+    -- N. the same with SDID 0
+    ∷ (opens smallBoard small1 1 0 .reply ≡ refusedWith 7)
+    -- O. a GiB of rw in unfinished form, edit: none, 0x40200000, length 0x200000
+    ∷ (afterO .reply ≡ edited 32 true)
+    -- O. L2 entry 32
+    ∷ (l2 afterO 32 ≡ 0x00006000AAAAAAA2)
+    -- O. free pages
+    ∷ (freePagesOf afterO ≡ 15)
+    -- P. an L2 entry that names page 0x100080001, load 0x40000000
+    ∷ (look topDigit 0x40000000 (itself load) ≡ fault 5)
+    -- P. close its slot
+    ∷ (closes topDigit 0 .reply ≡ refusedWith 3)
+    ∷ []

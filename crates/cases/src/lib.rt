@@ -1,0 +1,1 @@
+// The cases are in specs/, the claim that they hold in proofs/.

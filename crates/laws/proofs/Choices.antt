@@ -1,0 +1,45 @@
+-- Tests: by cases on one, and what a true or false `&&`, `||` or `not` says of its parts.
+use mathlib.Core.Path.{_≡_, refl, sym, _∙_}
+use mathlib.Core.Logic.{_⊎_, inl, inr}
+use mathlib.Core.Bool.{Bool, true, false, not, _&&_, _||_, true≢false, false≢true}
+
+pub and-true : (a b : Bool) → (a && b) ≡ true → (a ≡ true) × (b ≡ true)
+and-true true b h = (refl, h)
+and-true false b h = absurd (false≢true h)
+
+pub and-both : {a b : Bool} → a ≡ true → b ≡ true → (a && b) ≡ true
+and-both p q = rw (p, q)
+
+pub and-false : (a b : Bool) → (a && b) ≡ false → a ≡ true → b ≡ true → ⊥
+and-false true b h p q = true≢false (sym q ∙ h)
+and-false false b h p q = false≢true p
+
+pub not-true-false : (a : Bool) → not a ≡ true → a ≡ false
+not-true-false true h = absurd (false≢true h)
+not-true-false false h = refl
+
+-- a value that is not true is false
+pub true-or-false : (a : Bool) → (a ≡ true) ⊎ (a ≡ false)
+true-or-false true = inl refl
+true-or-false false = inr refl
+
+-- by cases on a test, with what each case says of it
+pub split {ℓ} : {P : Type ℓ} (b : Bool) → (b ≡ true → P) → (b ≡ false → P) → P
+split true t f = t refl
+split false t f = f refl
+
+pub elim-and : (a b : Bool) → (elim a as (λ x. Bool) [ true ↦ b | false ↦ false ]) ≡ (a && b)
+elim-and true b = refl
+elim-and false b = refl
+
+pub or-false : (a b : Bool) → (a || b) ≡ false → (a ≡ false) × (b ≡ false)
+or-false true b h = absurd (true≢false h)
+or-false false b h = (refl, h)
+
+pub or-left : (a b : Bool) → (a || b) ≡ true → a ≡ false → b ≡ true
+or-left true b h e = absurd (true≢false e)
+or-left false b h e = h
+
+pub not-false-true : (a : Bool) → not a ≡ false → a ≡ true
+not-false-true true h = refl
+not-false-true false h = absurd (true≢false h)
