@@ -1,0 +1,1 @@
+// The theorems are in proofs/; `Demands` is the one to open first.
