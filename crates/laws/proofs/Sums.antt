@@ -178,3 +178,7 @@ total-some g (r ∷ rs) h =
     (λ q. let none : g r ≤ 0 = borrow.Author.Tests.ltb-false 0 (g r) q in
     let k = total-some g rs (omega arith) in
     (k .0, omega (arith, k .1), k .2))
+
+pub total-one-of : (g : ℕ → ℕ) (r : ℕ) → total g (r ∷ []) ≡ g r
+unfolding total
+total-one-of g r = add-zero (g r)

@@ -2,11 +2,12 @@
 use mathlib.Core.Path.{_≡_, refl, sym, ap, _∙_, subst}
 use mathlib.Core.Logic.{_≢_}
 use mathlib.Core.Bool.{Bool, true, false, not, _&&_, _||_, true≢false}
-use mathlib.Core.List.{List, [], _∷_, _++_}
+use mathlib.Core.List.{List, [], _∷_, _++_, headD}
 use Prim.Native.Nat.{ℕ, suc, _+_, _≤_, _<_, zero-le}
 use native.Mathlib.Nat.{not-suc-le-zero, zero-add, add-assoc}
 use native.Mathlib.Omega.{arith}
 use lib.Dec.{eqb, ltb}
+use lib.ListN.{length}
 use borrow.Author.Tests.{eqb-true, eq-eqb, ne-eqb, ltb-true, ltb-false}
 use Rattle.model.specs.Numbers.{if_then_else_, each, member, distinct}
 use Rattle.laws.proofs.Choices.{split, and-true, and-both, not-true-false, elim-and}
@@ -118,3 +119,9 @@ each-all test [] h = refl
 each-all test (y ∷ ys) h =
     each-step test y ys
     ∙ and-both (h y (omega (arith, times-here y ys))) (each-all test ys (λ x l. h x (omega arith)))
+
+-- the head of a list that is not empty stands in it
+pub head-times : (xs : List ℕ) → 0 < length xs → 0 < times (headD xs 0) xs
+unfolding headD
+head-times [] h = absurd (not-suc-le-zero h)
+head-times (x ∷ xs) h = omega (arith, times-here x xs)

@@ -20,7 +20,7 @@ use Rattle.theory.proofs.Domains.{domain-root, open-domain}
 
 -- ---- refusals in order
 
-first-none : (n : ℕ) (t : Bool) (rest : List (ℕ × Bool)) → firstMet ((suc n, t) ∷ rest) ≡ 0 → (t ≡ false) × (firstMet rest ≡ 0)
+pub first-none : (n : ℕ) (t : Bool) (rest : List (ℕ × Bool)) → firstMet ((suc n, t) ∷ rest) ≡ 0 → (t ≡ false) × (firstMet rest ≡ 0)
 unfolding firstMet
 first-none n true rest h = absurd (omega arith)
 first-none n false rest h = (refl, h)

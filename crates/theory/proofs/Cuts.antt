@@ -2,21 +2,19 @@
 use mathlib.Core.Path.{_≡_, sym, ap, _∙_, subst}
 use mathlib.Core.Logic.{_≢_, inl, inr, ⊎-elim}
 use mathlib.Core.List.{List, [], _∷_}
-use Prim.Native.Nat.{ℕ, _+_, _*_, _≤_, _<_}
+use Prim.Native.Nat.{ℕ, _+_, _≤_, _<_}
 use native.Mathlib.Omega.{arith}
 use lib.Dec.{eqb, ltb}
 use lib.ListN.{length}
 use borrow.Author.Tests.{eqb-true, eqb-false, ltb-true, ltb-false}
-use Rattle.model.specs.Layout.{gibBlocks}
 use Rattle.model.specs.Register.{ppnOf}
 use Rattle.model.specs.Entry.{perm}
 use Rattle.model.specs.Frame.{pageOf, space}
 use Rattle.model.specs.Walk.{walk}
 use Rattle.model.specs.Lookup.{reads}
-use Rattle.model.specs.Sound.{roots, sound}
-use Rattle.model.specs.Forms.{Form, firstGib, forms}
+use Rattle.model.specs.Sound.{sound}
+use Rattle.model.specs.Forms.{Form, forms}
 use Rattle.model.specs.Stores.{newPages}
-use Rattle.model.specs.Calls.{rootOf}
 use Rattle.model.specs.Demands.{BeforeOrAfter, SamePermissions, calls, stopped, whole}
 use Rattle.laws.proofs.Choices.{split}
 use Rattle.laws.proofs.Times.{times}
@@ -26,32 +24,26 @@ use Rattle.theory.proofs.Plans.{planOf, step-refl, step-trans}
 use Rattle.theory.proofs.OneCall.{past}
 use Rattle.theory.proofs.Domains.{domain-root, same-read}
 use Rattle.theory.proofs.Accepts.{Accept}
-use Rattle.theory.proofs.WholeCall.{Edit, Rel, accept-kept, after-kept, callOf, cut, forms-kept, sound-of, whole-others, whole-reads}
+use Rattle.theory.proofs.WholeCall.{Edit, Rel, accept-kept, after-kept, callOf, cut, firstIn, forms-kept, rootIn, rootsIn, sound-of, whole-others, whole-reads}
 
 module _ (E : Edit) (m : List ℕ) (k : Accept (E .F) (E .slots) (E .q) m) where
   open Edit E using (F, lawful, slots, q, low)
 
   abbrev R : ℕ
-  R = rootOf F slots q
-
-  abbrev RS : List ℕ
-  RS = roots F slots
-
-  abbrev B : ℕ
-  B = firstGib q * gibBlocks
+  R = rootIn E
 
   -- a later call's steps, in the terms of the first
   recast : (m′ m″ : List ℕ) (t : Rel E m k m′) → Rel E m′ (accept-kept E m k m′ t) m″ → Rel E m k m″
   recast m′ m″ t u =
       let fs-same : forms F m′ q R ≡ forms F m q R = forms-kept E m k m′ t in
-      let hi-same : B + length (forms F m′ q R) ≡ B + length (forms F m q R) = ap (λ (l : List Form). B + length l) fs-same in
-      step-trans (planOf (callOf E m k)) B (past (callOf E m k)) m m′ m″ t
+      let hi-same : (firstIn E) + length (forms F m′ q R) ≡ (firstIn E) + length (forms F m q R) = ap (λ (l : List Form). (firstIn E) + length l) fs-same in
+      step-trans (planOf (callOf E m k)) (firstIn E) (past (callOf E m k)) m m′ m″ t
       (record {
         sound = u .sound;
         reads = λ r n l h. ⊎-elim inl (λ e. inr (e .0, e .1 ∙ ap perm (after-kept E m k m′ t n h))) (u .reads r n l h);
         entries = λ r b l h ne. u .entries r b l h (λ z. ne (z .0, z .1, omega (arith, z .2, hi-same)));
         weight =
-            subst (λ (fs : List Form). newPages F m″ R B fs + length (links F m″ RS) ≤ newPages F m′ R B fs + length (links F m′ RS)) fs-same (u .weight);
+            subst (λ (fs : List Form). newPages F m″ R (firstIn E) fs + length (links F m″ (rootsIn E)) ≤ newPages F m′ R (firstIn E) fs + length (links F m′ (rootsIn E))) fs-same (u .weight);
         low = u .low;
       })
 
@@ -61,7 +53,7 @@ module _ (E : Edit) (m : List ℕ) (k : Accept (E .F) (E .slots) (E .q) m) where
   calls-kept (j ∷ ks) m′ t = calls-kept ks (stopped F slots q j m′) (recast m′ (stopped F slots q j m′) t (cut E m′ (accept-kept E m k m′ t) j))
 
   abbrev pub unstarted : Rel E m k m
-  unstarted = step-refl (planOf (callOf E m k)) B (past (callOf E m k)) m (sound-of E m k)
+  unstarted = step-refl (planOf (callOf E m k)) (firstIn E) (past (callOf E m k)) m (sound-of E m k)
 
   -- every address of every domain reads as before or as after
   module _ (m′ : List ℕ) (t : Rel E m k m′) where
@@ -85,7 +77,7 @@ module _ (E : Edit) (m : List ℕ) (k : Accept (E .F) (E .slots) (E .q) m) where
         inl (same-read F slots m′ m r address (outside-space F m′ p n u ∙ sym (outside-space F m p n u))))
 
     -- a call that makes all its stores ends in the same permissions
-    whole-same : (p n : ℕ) → 0 < times p RS → n < space F → walk F (whole F slots q m′) p n ≡ walk F (whole F slots q m) p n
+    whole-same : (p n : ℕ) → 0 < times p (rootsIn E) → n < space F → walk F (whole F slots q m′) p n ≡ walk F (whole F slots q m) p n
     whole-same p n l u =
         split (eqb p R)
         (λ z. let same : p ≡ R = eqb-true p R z in

@@ -1,7 +1,7 @@
 -- The second and the third demand, for every lawful layout, and so for both boards. Open this file first.
 -- The statements are the model's own (`Demand2`, `Demand3`), with no further hypothesis. The rooms that carry them:
 -- `WholeCall` (one call), `Cuts` (calls that are cut anywhere), `CutsFree` (the free pages), `Counts` (how many stores).
-use mathlib.Core.Path.{_≡_, refl, sym, ap, subst}
+use mathlib.Core.Path.{_≡_, refl, sym, ap, _∙_, subst}
 use mathlib.Core.List.{List, [], _∷_, _++_}
 use Prim.Native.Nat.{ℕ, _≤_}
 use native.Mathlib.Omega.{arith}
@@ -49,12 +49,17 @@ module _ (F : Frame) (lawful : Lawful (F .layout)) (slots : List Slot) (q : Requ
   one-more [] j m = refl
   one-more (k ∷ ks) j m = one-more ks j (stopped F slots q k m)
 
+  -- an accepted call with a limit is a call that is stopped there: the claim speaks of it, and its slots are as they were
+  pub edit-stopped : (m : List ℕ) (limit : ℕ) → Accepted F slots q m
+      → (editSlot F m slots q limit .memory ≡ stopped F slots q limit m) × (editSlot F m slots q limit .slots ≡ slots)
+  unfolding editSlot editWith made stopped editRefusal storeList
+  edit-stopped m limit a = (rw a, rw a)
+
   -- ---- demand 2
 
-  -- an accepted edit that may make all its stores leaves the whole edit's memory
   edit-whole : (m : List ℕ) (limit : ℕ) → Accepted F slots q m → length (storeList F m slots q) ≤ limit → editSlot F m slots q limit .memory ≡ whole F slots q m
-  unfolding editSlot editWith made whole editRefusal storeList
-  edit-whole m limit a h = rw a (ap (λ (l : List Store). apply l m) (take-all limit (storeList F m slots q) h))
+  unfolding stopped whole
+  edit-whole m limit a h = edit-stopped m limit a .0 ∙ ap (λ (l : List Store). apply l m) (take-all limit (storeList F m slots q) h)
 
   pub demand2 : Demand2 F slots q
   demand2 m limit typed accepted all =

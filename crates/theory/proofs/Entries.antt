@@ -1,17 +1,16 @@
 -- The laws of a layout: what is encoded is decoded, and what the walk finds is one of four permissions.
 use mathlib.Core.Path.{_≡_, refl, sym, ap, _∙_, subst}
-use mathlib.Core.Bool.{true, false≢true}
+use mathlib.Core.Bool.{Bool, true, _&&_, false≢true}
 use Prim.Native.Nat.{ℕ, zero, _+_, _*_, _-_, _/_, _%_, _^_, _≤_, _<_}
 use native.Mathlib.Nat.{add-zero, div-div-eq-div-mul, div-eq-of-lt, mod-eq-of-lt, lt-of-lt-of-le, ne-of-gt, one-mul, div-lt-iff-lt-mul}
 use native.Mathlib.Omega.{arith}
 use lib.Arith.{digits-div, digits-mod}
 use lib.Pow.{pow-add, pow-pos}
-use lib.Dec.{eqb, ltb, lit≤, lit<}
-use borrow.Author.Tests.{eqb-true, eq-eqb, ne-eqb, ltb-true, lt-ltb, le-ltb}
-use Rattle.model.specs.Layout.{Layout, piecePages, rv32, rv64}
+use lib.Dec.{eqb, leb, ltb}
+use borrow.Author.Tests.{eqb-true, eq-eqb, ne-eqb, ltb-true, lt-ltb, le-ltb, leb-true}
+use Rattle.model.specs.Layout.{Layout, blockPages, piecePages, rv32, rv64}
 use Rattle.model.specs.Entry.{Entry, decode, encode, flat, infoOf, invalid, pieces, table, typeOf, zeroOf}
-use Rattle.laws.proofs.Choices.{split}
-use Rattle.theory.proofs.Used.{passes}
+use Rattle.laws.proofs.Choices.{and-true, split}
 
 -- what the theory asks of a layout
 pub record Lawful (L : Layout) : Type 0 where
@@ -28,31 +27,41 @@ pub record Lawful (L : Layout) : Type 0 where
   -- an entry holds TYPE and INFO
   pub entryFits : 2 ^ (L .infoBits + 3) ≤ 16 ^ L .fields
 
-pub rv64-lawful : Lawful rv64
-rv64-lawful =
+-- the laws of a layout are a test of its numbers
+unfoldable pub numbersFit : Layout → Bool
+numbersFit L =
+    eqb (L .words * L .fields) blockPages && eqb (L .pieces * piecePages L) blockPages && ltb 4 (L .pieceType) && ltb (L .pieceType) 8
+    && leb (4 ^ L .pieces) (2 ^ L .infoBits) && leb (2 ^ (L .maxPaw - 25)) (L .words) && leb (2 ^ (L .maxPaw - 12)) (2 ^ L .infoBits)
+    && leb (2 ^ (L .infoBits + 3)) (16 ^ L .fields)
+
+lawful : (L : Layout) → numbersFit L ≡ true → Lawful L
+unfolding numbersFit
+lawful L h =
+    let a = and-true _ _ h in
+    let b = and-true _ _ (a .0) in
+    let c = and-true _ _ (b .0) in
+    let d = and-true _ _ (c .0) in
+    let e = and-true _ _ (d .0) in
+    let f = and-true _ _ (e .0) in
+    let g = and-true _ _ (f .0) in
     record {
-      pageFields = refl;
-      piecesPages = refl;
-      typeLow = lit< tt;
-      typeHigh = lit< tt;
-      infoFits = lit≤ tt;
-      rootFits = lit≤ tt;
-      ppnFits = lit≤ tt;
-      entryFits = lit≤ tt;
+      pageFields = eqb-true _ _ (g .0);
+      piecesPages = eqb-true _ _ (g .1);
+      typeLow = ltb-true _ _ (f .1);
+      typeHigh = ltb-true _ _ (e .1);
+      infoFits = leb-true _ _ (d .1);
+      rootFits = leb-true _ _ (c .1);
+      ppnFits = leb-true _ _ (b .1);
+      entryFits = leb-true _ _ (a .1);
     }
 
+pub rv64-lawful : Lawful rv64
+unfolding numbersFit
+rv64-lawful = lawful rv64 refl
+
 pub rv32-lawful : Lawful rv32
-rv32-lawful =
-    record {
-      pageFields = refl;
-      piecesPages = refl;
-      typeLow = lit< tt;
-      typeHigh = lit< tt;
-      infoFits = lit≤ tt;
-      rootFits = lit≤ tt;
-      ppnFits = lit≤ tt;
-      entryFits = lit≤ tt;
-    }
+unfolding numbersFit
+rv32-lawful = lawful rv32 refl
 
 module _ (L : Layout) (ok : Lawful L) where
   -- ---- an entry made of TYPE and INFO

@@ -20,7 +20,7 @@ use Rattle.model.specs.Forms.{Form, wantTable}
 use Rattle.model.specs.Stores.{Store, apply, blockStores, needsPage, newPages, storesFrom}
 use Rattle.model.specs.Demands.{IsForm}
 use Rattle.laws.proofs.Choices.{split}
-use Rattle.laws.proofs.Times.{times, times-here, times-one}
+use Rattle.laws.proofs.Times.{head-times, times, times-one}
 use Rattle.theory.proofs.Used.{links, pagesOf}
 use Rattle.theory.proofs.Tables.{Sound}
 use Rattle.theory.proofs.Walks.{entry-word}
@@ -83,12 +83,6 @@ module _ (C : Call) where
     abbrev pub freeLeft : List ℕ
     freeLeft = if needsPage f (entryAt F m0 ro b) then tail free else free
 
-    -- the first of the free pages, where one is needed
-    head-in : (xs : List ℕ) → 1 ≤ length xs → 0 < times (headD xs 0) xs
-    unfolding headD
-    head-in [] h = absurd (omega arith)
-    head-in (x ∷ xs) h = omega (arith, times-here x xs)
-
     need-one : needsPage f (entryAt F m0 ro b) ≡ true → 1 ≤ length free
     unfolding newPages
     need-one z = omega (arith, rw z at (k .enough))
@@ -100,7 +94,7 @@ module _ (C : Call) where
           sound = k .step .sound;
           same = k .ahead b (omega arith) (spot-inside (planOf C) B);
           sameL1 = λ t i z h. k .aheadL1 b t i (omega arith) (spot-inside (planOf C) B) z h;
-          fresh = λ z. k .isFree (headD free 0) (head-in free (need-one z));
+          fresh = λ z. k .isFree (headD free 0) (head-times free (need-one z));
         }
 
     done : Result C B m (headD free 0) ready storesHere

@@ -21,9 +21,9 @@ use Rattle.model.specs.Demands.{IsForm, stopped, whole}
 use Rattle.laws.proofs.Choices.{split}
 use Rattle.laws.proofs.Sums.{times-measure}
 use Rattle.laws.proofs.Times.{times}
-use Rattle.theory.proofs.Used.{used-measure}
 use Rattle.theory.proofs.Entries.{Lawful}
 use Rattle.theory.proofs.Frames.{Ok, blocks-pos, frame-ok}
+use Rattle.theory.proofs.Used.{used-measure}
 use Rattle.theory.proofs.Roots.{root-once}
 use Rattle.theory.proofs.Tables.{Sound, from-sound, to-sound}
 use Rattle.theory.proofs.Finds.{after-inside, after-outside}
@@ -43,17 +43,27 @@ pub record Edit : Type 0 where
   pub q : Request
   pub low : q .permission < 4
 
+-- its root, the roots of all domains, and the first touched block
+abbrev pub rootIn : Edit → ℕ
+rootIn E = rootOf (E .F) (E .slots) (E .q)
+
+abbrev pub rootsIn : Edit → List ℕ
+rootsIn E = roots (E .F) (E .slots)
+
+abbrev pub firstIn : Edit → ℕ
+firstIn E = firstGib (E .q) * gibBlocks
+
 module _ (E : Edit) (m : List ℕ) (k : Accept (E .F) (E .slots) (E .q) m) where
   open Edit E using (F, lawful, slots, q, low)
 
   abbrev R : ℕ
-  R = rootOf F slots q
+  R = rootIn E
 
   abbrev RS : List ℕ
-  RS = roots F slots
+  RS = rootsIn E
 
   abbrev B : ℕ
-  B = firstGib q * gibBlocks
+  B = firstIn E
 
   pub ok-of : Ok F
   ok-of = frame-ok F m lawful (k .frame) .0
