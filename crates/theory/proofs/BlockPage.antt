@@ -20,10 +20,10 @@ use Rattle.model.specs.Stores.{Store, apply, ifChanged, needsPage, storeAt, sto
 use Rattle.model.specs.Demands.{IsForm}
 use Rattle.laws.proofs.Choices.{split}
 use Rattle.laws.proofs.Times.{times, times-other}
+use Rattle.theory.proofs.Used.{links, pagesOf, passes}
 use Rattle.theory.proofs.Entries.{decode-table}
 use Rattle.theory.proofs.Memory.{put, put-other-entry, put-other-page, put-same}
 use Rattle.theory.proofs.Frames.{lent-ppn, pn1-lt}
-use Rattle.theory.proofs.Used.{links, pagesOf, passes}
 use Rattle.theory.proofs.Roots.{page-of, place-lt}
 use Rattle.theory.proofs.Tables.{Sound, link-block-once, link-in, link-not-root}
 use Rattle.theory.proofs.Walks.{SameEntries, change-times, entry-word, found-table, same-times, walk-in}

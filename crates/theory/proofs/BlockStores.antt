@@ -13,8 +13,8 @@ use Rattle.model.specs.Forms.{Form, l1Word, wantFlat, wantPieces, wantTable}
 use Rattle.model.specs.Stores.{Store, apply, blockStores, ifChangedL2, linkTable, needsPage, newTable, sameTable}
 use Rattle.model.specs.Demands.{IsForm}
 use Rattle.laws.proofs.Times.{times}
-use Rattle.theory.proofs.Entries.{decode-flat, decode-pieces}
 use Rattle.theory.proofs.Used.{links, pagesOf, passes}
+use Rattle.theory.proofs.Entries.{decode-flat, decode-pieces}
 use Rattle.theory.proofs.Tables.{Sound}
 use Rattle.theory.proofs.Walks.{entry-word}
 use Rattle.theory.proofs.Finds.{l1-wanted, wanted}

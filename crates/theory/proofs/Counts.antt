@@ -22,8 +22,8 @@ use Rattle.laws.proofs.Digits.{pack-cong, pack-digit}
 use Rattle.laws.proofs.Every.{every-all}
 use Rattle.laws.proofs.Sums.{joined-measure, length-measure, sum, sum-add, sum-cong, sum-const, sum-le}
 use Rattle.laws.proofs.Times.{times, times-append, times-one, times-other}
-use Rattle.theory.proofs.Frames.{Ok, entry-in-block, page-parts, piece-of, piece-pos, pn1-of, pn2-of}
 use Rattle.theory.proofs.Used.{links, passes}
+use Rattle.theory.proofs.Frames.{Ok, entry-in-block, page-parts, piece-of, piece-pos, pn1-of, pn2-of}
 use Rattle.theory.proofs.Tables.{Sound, link-in}
 use Rattle.theory.proofs.Walks.{found-table}
 use Rattle.theory.proofs.Finds.{field-clean}

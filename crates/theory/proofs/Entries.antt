@@ -11,6 +11,7 @@ use borrow.Author.Tests.{eqb-true, eq-eqb, ne-eqb, ltb-true, lt-ltb, le-ltb, leb
 use Rattle.model.specs.Layout.{Layout, blockPages, piecePages, rv32, rv64}
 use Rattle.model.specs.Entry.{Entry, decode, encode, flat, infoOf, invalid, pieces, table, typeOf, zeroOf}
 use Rattle.laws.proofs.Choices.{and-true, split}
+use Rattle.theory.proofs.Used.{passes}
 
 -- what the theory asks of a layout
 pub record Lawful (L : Layout) : Type 0 where

@@ -16,9 +16,9 @@ use Rattle.laws.proofs.Choices.{split}
 use Rattle.laws.proofs.Digits.{digit-lt, digit-pack, pack-cong, pack-lt}
 use Rattle.laws.proofs.Every.{every-all, every-at}
 use Rattle.laws.proofs.Times.{times}
+use Rattle.theory.proofs.Used.{links, passes}
 use Rattle.theory.proofs.Entries.{Small, decode-small}
 use Rattle.theory.proofs.Frames.{Ok, entry-in-block, page-parts, pn0-lt, pn1-lt, pn2-lt, pn2-of}
-use Rattle.theory.proofs.Used.{links, passes}
 use Rattle.theory.proofs.Tables.{Sound, link-in}
 use Rattle.theory.proofs.Walks.{walk-in}
 

@@ -14,8 +14,8 @@ use Rattle.model.specs.Sound.{freeOf, freePages, used}
 use Rattle.laws.proofs.Choices.{and-false, and-true, split}
 use Rattle.laws.proofs.Sums.{joined-measure, length-measure, sum, sum-add, sum-change, sum-cong, sum-const, sum-le, sum-some, times-measure}
 use Rattle.laws.proofs.Times.{member-none, member-some, times, times-append, times-here, times-none, times-one, times-other, times-single}
-use Rattle.theory.proofs.Memory.{is-lent, lent-high, lent-low}
 use Rattle.theory.proofs.Used.{links, pagesOf, used-measure}
+use Rattle.theory.proofs.Memory.{is-lent, lent-high, lent-low}
 use Rattle.theory.proofs.Tables.{Sound}
 
 -- ---- one number among the n numbers from s

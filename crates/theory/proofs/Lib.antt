@@ -2,10 +2,10 @@
 -- From the bottom up:
 --
 -- What a table is
+--   Used         the pages in use: those of the roots, and those that entries name, counted
 --   Entries      a lawful layout: what is encoded is decoded
 --   Memory       one store to one entry of a lent page: which entries it changes
 --   Frames       a frame within its bounds: entry numbers, page numbers and their parts
---   Used         the pages in use: those of the roots, and those that entries name, counted
 --   Roots        where the entries of a root stand
 --   Tables       a sound table, as facts about its entries and its pages
 --   Walks        what a walk reads; what the entries name, when none or one of them changes
@@ -38,10 +38,10 @@
 --   Registers    a register that opening makes
 --   Opening      a table with one root more, or one less
 --   OpenClose    the two calls
+pub mod Used
 pub mod Entries
 pub mod Memory
 pub mod Frames
-pub mod Used
 pub mod Roots
 pub mod Tables
 pub mod Walks

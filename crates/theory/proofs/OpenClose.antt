@@ -22,9 +22,9 @@ use Rattle.model.specs.Demands.{SamePermissions}
 use Rattle.laws.proofs.Choices.{and-both, and-true, not-false-true, or-false, split}
 use Rattle.laws.proofs.Sums.{Measure, times-measure, total, total-one-of}
 use Rattle.laws.proofs.Times.{distinct-times, each-all, each-at, head-times, times, times-distinct, times-one, times-other, times-single}
+use Rattle.theory.proofs.Used.{links, pagesOf, used-measure}
 use Rattle.theory.proofs.Entries.{Lawful}
 use Rattle.theory.proofs.Frames.{Ok, frame-ok, lent-ppn}
-use Rattle.theory.proofs.Used.{links, pagesOf, used-measure}
 use Rattle.theory.proofs.Tables.{Sound, from-sound, to-sound}
 use Rattle.theory.proofs.Free.{free-in, not-member}
 use Rattle.theory.proofs.Domains.{domain-root, same-read}

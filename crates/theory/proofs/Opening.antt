@@ -16,9 +16,9 @@ use Rattle.model.specs.Sound.{linkOf, linksIn}
 use Rattle.laws.proofs.Choices.{split}
 use Rattle.laws.proofs.Sums.{sum-cong, sum-const, times-measure, total}
 use Rattle.laws.proofs.Times.{times, times-none, times-one, times-other, times-single}
+use Rattle.theory.proofs.Used.{links, links-measure, linksIn-measure, pages-measure, pagesOf, passes}
 use Rattle.theory.proofs.Entries.{decode-flat}
 use Rattle.theory.proofs.Frames.{Ok, blocks-words, pn1-lt, pn2-lt}
-use Rattle.theory.proofs.Used.{links, links-measure, linksIn-measure, pages-measure, pagesOf, passes}
 use Rattle.theory.proofs.Roots.{page-of, place-lt}
 use Rattle.theory.proofs.Tables.{Sound, link-in}
 use Rattle.theory.proofs.Walks.{SameEntries, entry-lent, entry-word, outside-space, same-times, walk-in, walk-same}

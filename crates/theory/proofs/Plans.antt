@@ -13,8 +13,8 @@ use Rattle.model.specs.Walk.{entryAt, pieceOf, pn2, walk}
 use Rattle.model.specs.Forms.{Form, Request, after, wantFlat, wantPieces, wantTable}
 use Rattle.model.specs.Stores.{needsPage, newPages}
 use Rattle.laws.proofs.Times.{times}
-use Rattle.theory.proofs.Frames.{Ok}
 use Rattle.theory.proofs.Used.{links}
+use Rattle.theory.proofs.Frames.{Ok}
 use Rattle.theory.proofs.Tables.{Sound}
 use Rattle.theory.proofs.Finds.{after-small}
 

@@ -9,8 +9,8 @@ use Rattle.model.specs.Frame.{Frame, blocks}
 use Rattle.model.specs.Walk.{entryPage, entryPlace, rootPages}
 use Rattle.laws.proofs.Sums.{times-measure, total-one, total-times, total-two}
 use Rattle.laws.proofs.Times.{times, times-one}
-use Rattle.theory.proofs.Frames.{Ok, blocks-words}
 use Rattle.theory.proofs.Used.{pages-measure, pagesOf}
+use Rattle.theory.proofs.Frames.{Ok, blocks-words}
 
 module _ (F : Frame) (ok : Ok F) where
   pub place-lt : (b : ℕ) → b < blocks F → entryPlace F b < F .layout .words

@@ -18,10 +18,10 @@ use Rattle.model.specs.Forms.{Form}
 use Rattle.model.specs.Stores.{newPages}
 use Rattle.laws.proofs.Choices.{and-both, and-false, and-true, split}
 use Rattle.laws.proofs.Times.{times}
+use Rattle.theory.proofs.Used.{links, pagesOf, passes}
 use Rattle.theory.proofs.Entries.{decode-fits}
 use Rattle.theory.proofs.Memory.{put, put-length, put-low, put-other-entry, put-other-page, put-same}
 use Rattle.theory.proofs.Frames.{Ok, pn1-lt, pn2-lt}
-use Rattle.theory.proofs.Used.{links, pagesOf, passes}
 use Rattle.theory.proofs.Roots.{page-of, pages-apart, place-inj, place-lt}
 use Rattle.theory.proofs.Tables.{Sound, link-block-once, link-in, link-named, link-not-root, link-root-once, table-once}
 use Rattle.theory.proofs.Walks.{SameEntries, change-length, change-times, entry-lent, entry-word, found-same, found-table, same-length, same-sound, walk-in, walk-same}

@@ -21,9 +21,9 @@ use Rattle.model.specs.Demands.{IsForm, stopped, whole}
 use Rattle.laws.proofs.Choices.{split}
 use Rattle.laws.proofs.Sums.{times-measure}
 use Rattle.laws.proofs.Times.{times}
+use Rattle.theory.proofs.Used.{used-measure}
 use Rattle.theory.proofs.Entries.{Lawful}
 use Rattle.theory.proofs.Frames.{Ok, blocks-pos, frame-ok}
-use Rattle.theory.proofs.Used.{used-measure}
 use Rattle.theory.proofs.Roots.{root-once}
 use Rattle.theory.proofs.Tables.{Sound, from-sound, to-sound}
 use Rattle.theory.proofs.Finds.{after-inside, after-outside}
