@@ -1,0 +1,62 @@
+-- What a frame within its bounds is, as numbers; what a lent page is; and where an entry of a page stands.
+use mathlib.Core.Path.{_≡_, refl}
+use mathlib.Core.Bool.{Bool, true, false, _&&_, false≢true}
+use mathlib.Core.List.{List}
+use Prim.Native.Nat.{ℕ, _+_, _-_, _*_, _≤_, _<_, _^_}
+use native.Mathlib.Omega.{arith}
+use lib.ListN.{length}
+use lib.Pow.{pow-mono}
+use borrow.Author.Tests.{leb-true, ltb-true, eqb-true}
+use Rattle.model.specs.Frame.{Frame, blocks, space, lent, boundsOk, frameOk, indexOf}
+
+-- both halves of a conjunction that holds
+pub both : (a b : Bool) → (a && b) ≡ true → (a ≡ true) × (b ≡ true)
+both true b h = (refl, h)
+both false b h = absurd (false≢true h)
+
+pub record Bounds (F : Frame) : Type 0 where
+  pub paw-low : 30 ≤ F .paw
+  pub paw-high : F .paw ≤ F .layout .maxPaw
+  pub two : 2 ≤ F .pages
+  pub most : F .pages ≤ F .layout .maxPages
+  pub first : 1 ≤ F .first
+  pub room : F .first + F .pages ≤ 2 ^ (F .paw - 12)
+
+pub bounds : (F : Frame) → boundsOk F ≡ true → Bounds F
+unfolding boundsOk space
+bounds F h =
+    let h5 = both _ _ h in
+    let h4 = both _ _ (h5 .0) in
+    let h3 = both _ _ (h4 .0) in
+    let h2 = both _ _ (h3 .0) in
+    let h1 = both _ _ (h2 .0) in
+    record {
+      paw-low = leb-true _ _ (h1 .0);
+      paw-high = leb-true _ _ (h1 .1);
+      two = leb-true _ _ (h2 .1);
+      most = leb-true _ _ (h3 .1);
+      first = leb-true _ _ (h4 .1);
+      room = leb-true _ _ (h5 .1);
+    }
+
+-- a frame that is accepted is within its bounds, and its memory is whole pages
+pub framed : (F : Frame) (m : List ℕ) → frameOk F m ≡ true → (boundsOk F ≡ true) × (length m ≡ F .pages * F .layout .words)
+unfolding frameOk
+framed F m h = let k = both _ _ h in (k .0, eqb-true _ _ (k .1))
+
+-- a lent page is one of the pages from the first
+pub lent-in : (F : Frame) (page : ℕ) → lent F page ≡ true → (F .first ≤ page) × (page < F .first + F .pages)
+unfolding lent
+lent-in F page h = let k = both _ _ h in (leb-true _ _ (k .0), ltb-true _ _ (k .1))
+
+-- entry i of a page stands i words after its start
+pub index-add : (F : Frame) (page i : ℕ) → indexOf F page 0 + i ≡ indexOf F page i
+unfolding indexOf
+index-add F page i = omega arith
+
+-- 2^(PAW-12) pages and 2^(PAW-25) blocks, at PAW 34 at the most
+pub few-pages : (paw : ℕ) → paw ≤ 34 → 2 ^ (paw - 12) ≤ 2 ^ 22
+few-pages paw h = pow-mono {i = paw - 12} {j = 22} (omega arith)
+
+pub few-blocks : (paw : ℕ) → paw ≤ 34 → 2 ^ (paw - 25) ≤ 512
+few-blocks paw h = pow-mono {i = paw - 25} {j = 9} (omega arith)
