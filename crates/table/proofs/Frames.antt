@@ -1,13 +1,13 @@
 -- What a frame within its bounds is, as numbers; what a lent page is; and where an entry of a page stands.
-use mathlib.Core.Path.{_≡_, refl}
+use mathlib.Core.Path.{_≡_, refl, ap, _∙_}
 use mathlib.Core.Bool.{Bool, true, false, _&&_, false≢true}
 use mathlib.Core.List.{List}
 use Prim.Native.Nat.{ℕ, _+_, _-_, _*_, _≤_, _<_, _^_}
 use native.Mathlib.Omega.{arith}
-use lib.ListN.{length}
+use lib.ListN.{length, getD}
 use lib.Pow.{pow-mono}
 use borrow.Author.Tests.{leb-true, ltb-true, eqb-true}
-use Rattle.model.specs.Frame.{Frame, blocks, space, lent, boundsOk, frameOk, indexOf}
+use Rattle.model.specs.Frame.{Frame, blocks, space, lent, boundsOk, frameOk, indexOf, wordAt}
 
 -- both halves of a conjunction that holds
 pub both : (a b : Bool) → (a && b) ≡ true → (a ≡ true) × (b ≡ true)
@@ -53,6 +53,10 @@ lent-in F page h = let k = both _ _ h in (leb-true _ _ (k .0), ltb-true _ _ (k .
 pub index-add : (F : Frame) (page i : ℕ) → indexOf F page 0 + i ≡ indexOf F page i
 unfolding indexOf
 index-add F page i = omega arith
+
+pub word-at : (F : Frame) (m : List ℕ) (page i r : ℕ) → r ≡ indexOf F page 0 → getD m (r + i) 0 ≡ wordAt F m page i
+unfolding wordAt
+word-at F m page i r e = ap (λ (k : ℕ). getD m k 0) (ap (λ (k : ℕ). k + i) e ∙ index-add F page i)
 
 -- 2^(PAW-12) pages and 2^(PAW-25) blocks, at PAW 34 at the most
 pub few-pages : (paw : ℕ) → paw ≤ 34 → 2 ^ (paw - 12) ≤ 2 ^ 22
