@@ -1,6 +1,6 @@
 -- What a frame within its bounds is, as numbers; what a lent page is; and where an entry of a page stands.
-use mathlib.Core.Path.{_≡_, refl, ap, _∙_}
-use mathlib.Core.Bool.{Bool, true, false, _&&_, false≢true}
+use mathlib.Core.Path.{_≡_, ap, _∙_}
+use mathlib.Core.Bool.{true}
 use mathlib.Core.List.{List}
 use Prim.Native.Nat.{ℕ, _+_, _-_, _*_, _≤_, _<_, _^_}
 use native.Mathlib.Omega.{arith}
@@ -8,11 +8,9 @@ use lib.ListN.{length, getD}
 use lib.Pow.{pow-mono}
 use borrow.Author.Tests.{leb-true, ltb-true, eqb-true}
 use Rattle.model.specs.Frame.{Frame, blocks, space, lent, boundsOk, frameOk, indexOf, wordAt}
-
--- both halves of a conjunction that holds
-pub both : (a b : Bool) → (a && b) ≡ true → (a ≡ true) × (b ≡ true)
-both true b h = (refl, h)
-both false b h = absurd (false≢true h)
+use Rattle.model.specs.Entry.{decode}
+use Rattle.model.specs.Walk.{entryAt, entryPage, entryPlace, l2Word}
+use Rattle.table.proofs.Runs.{both}
 
 pub record Bounds (F : Frame) : Type 0 where
   pub paw-low : 30 ≤ F .paw
@@ -57,6 +55,12 @@ index-add F page i = omega arith
 pub word-at : (F : Frame) (m : List ℕ) (page i r : ℕ) → r ≡ indexOf F page 0 → getD m (r + i) 0 ≡ wordAt F m page i
 unfolding wordAt
 word-at F m page i r e = ap (λ (k : ℕ). getD m k 0) (ap (λ (k : ℕ). k + i) e ∙ index-add F page i)
+
+-- L2 entry b of a lent root stands b words after the root's start
+pub entry-at : (F : Frame) (m : List ℕ) (root b r : ℕ) → lent F root ≡ true → r ≡ indexOf F root 0
+    → decode (F .layout) (getD m (r + b) 0) ≡ entryAt F m root b
+unfolding entryAt entryPage entryPlace l2Word
+entry-at F m root b r h e = rw h (ap (decode (F .layout)) (word-at F m root b r e))
 
 -- 2^(PAW-12) pages and 2^(PAW-25) blocks, at PAW 34 at the most
 pub few-pages : (paw : ℕ) → paw ≤ 34 → 2 ^ (paw - 12) ≤ 2 ^ 22

@@ -1,10 +1,7 @@
 -- `lookup::entry_at` meets its contract.
-use mathlib.Core.Path.{_≡_, sym, ap, _∙_}
-use Prim.Native.Nat.{ℕ}
-use Rattle.model.specs.Layout.{rv64}
-use Rattle.model.specs.Entry.{decode}
-use Rattle.model.specs.Walk.{entryAt, entryPage, entryPlace, l2Word}
-use Rattle.table.proofs.Frames.{word-at}
+use Rattle.model.specs.Walk.{entryAt, entryPage}
+use Rattle.table.proofs.Frames.{entry-at}
+use mathlib.Core.Path.{sym, _∙_}
 use borrow.Author.Needs.{needs}
 use Rattle.lookup.proofs.entry_at.Statement.{statement}
 use Rattle.lookup.proofs.entry_at.Tie as tie
@@ -28,11 +25,9 @@ decode-requires : tie.Need-decode-requires
 decode-requires c κs = search needs
 
 returns : tie.Need-returns
-unfolding entryAt entryPage entryPlace l2Word
 returns c = let p = c .before .before in
     let b = p .before in (
-      c .decode .ensures .0
-          ∙ rw (sym (b .before .is-lent .ensures) ∙ b .if1 .taken) (ap (decode rv64) (word-at _ _ _ _ _ (p .page-start .ensures .0))),
+      c .decode .ensures .0 ∙ entry-at _ _ _ _ _ (sym (b .before .is-lent .ensures) ∙ b .if1 .taken) (p .page-start .ensures .0),
       c .decode .ensures .1,
     )
 
