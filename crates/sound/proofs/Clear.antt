@@ -1,4 +1,4 @@
--- The pages whose marks are not set, found one by one: from below, for the lowest, and from above, for their number and the lowest two.
+-- The pages whose marks are not set, found one by one from the highest down.
 use mathlib.Core.Path.{_≡_, refl, sym, ap, ap₂, _∙_}
 use mathlib.Core.Bool.{Bool, true, false}
 use mathlib.Core.List.{List, [], _∷_, _++_}
@@ -9,8 +9,7 @@ use native.Mathlib.Omega.{arith}
 use lib.ListN.{length, getD}
 use Rattle.model.specs.Numbers.{if_then_else_, joined}
 use Rattle.table.proofs.Runs.{joined-short}
-use Rattle.sound.specs.declared.Lowest.the-variants.{Page, Nothing}
-use Rattle.sound.specs.Free.{clearAt, lowestOf, withPage}
+use Rattle.sound.specs.Free.{clearAt, withPage}
 
 module _ (k : List Bool) (first pages : ℕ) where
   -- the clear pages among n from place i
@@ -45,22 +44,7 @@ module _ (k : List Bool) (first pages : ℕ) where
       one true p = omega arith
       one false p = omega arith
 
-  -- ---- from below: place i is the next
-
-  module _ (i : ℕ) (h : i < pages) where
-    turn : clear (pages - i) i ≡ withPage (getD k i false) (first + i) (clear (pages - (i + 1)) (i + 1))
-    turn = let e : pages - i ≡ suc (pages - (i + 1)) = omega arith in ap (λ (n : ℕ). clear n i) e ∙ clear-step (pages - (i + 1)) i
-
-    pub passed : getD k i false ≡ true → clear (pages - i) i ≡ clear (pages - (i + 1)) (i + 1)
-    passed e = turn ∙ ap (λ (b : Bool). withPage b (first + i) (clear (pages - (i + 1)) (i + 1))) e
-
-    pub picked : getD k i false ≡ false → lowestOf (clear (pages - i) i) ≡ Page (record { 0 = first + i })
-    picked e = ap lowestOf (turn ∙ ap (λ (b : Bool). withPage b (first + i) (clear (pages - (i + 1)) (i + 1))) e)
-
-  pub none-left : (i : ℕ) → pages ≤ i → lowestOf (clear (pages - i) i) ≡ Nothing
-  none-left i h = let e : pages - i ≡ 0 = omega arith in ap lowestOf (ap (λ (n : ℕ). clear n i) e ∙ clear-none i)
-
-  -- ---- from above: i pages are passed, and the next is place pages - 1 - i
+  -- i pages are passed, and the next is place pages - 1 - i
 
   pub below : (i : ℕ) → i < pages
       → withPage (getD k (pages - 1 - i) false) (first + (pages - 1 - i)) (clear i (pages - i)) ≡ clear (i + 1) (pages - (i + 1))

@@ -4,7 +4,7 @@
 --   Marks    a pass that sets marks one after the other finds whether the places are distinct
 --   Pages    pages in use are lent, so that their places among the lent tell them apart
 --   Pass     the two passes, over the registers and over the tables
---   Clear    the pages whose marks are not set, found from below and from above
+--   Clear    the pages whose marks are not set, found from the highest down
 --   Laws     what callers use: what the check says, and that its marks give the free pages
 pub mod Steps
 pub mod Marks

@@ -6,8 +6,6 @@ use lib.ListN.{length, getD}
 use Rattle.model.specs.Numbers.{if_then_else_, joined}
 use Rattle.model.specs.Frame.{Frame}
 use Rattle.sound.specs.declared.Free.{Free}
-use Rattle.sound.specs.declared.Lowest.{Lowest}
-use Rattle.sound.specs.declared.Lowest.the-variants.{Page, Nothing}
 
 -- the lent pages whose marks are not set, lowest first
 abbrev pub clearAt : ℕ → List Bool → ℕ → List ℕ
@@ -16,14 +14,9 @@ clearAt first marks page = if getD marks (page - first) false then [] else page 
 unfoldable pub clearPages : Frame → List Bool → List ℕ
 clearPages F marks = joined (clearAt (F .first) marks) (F .pages) (F .first)
 
--- the lowest of some pages
-abbrev pub lowestOf : List ℕ → Lowest
-lowestOf [] = Nothing
-lowestOf (page ∷ pages) = Page (record { 0 = page })
-
 -- how many pages there are, and the first two; 0 stands for one that there is not
-abbrev pub freeOf : List ℕ → Free
-freeOf pages = record { count = length pages; first = record { 0 = headD pages 0 }; second = record { 0 = headD (tail pages) 0 } }
+abbrev pub listed : List ℕ → Free
+listed pages = record { count = length pages; first = record { 0 = headD pages 0 }; second = record { 0 = headD (tail pages) 0 } }
 
 -- one page more, below the others, if it is not marked
 abbrev pub withPage : Bool → ℕ → List ℕ → List ℕ

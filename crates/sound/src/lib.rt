@@ -24,12 +24,6 @@ pub struct Checked {
     pub used: [bool; 256],
 }
 
-// The lowest free page, if there is one.
-pub enum Lowest {
-    Page(PageNumber),
-    Nothing,
-}
-
 // How many pages are free, and the two lowest: an edit takes no more than two. Page 0, which is never lent, stands for none.
 pub struct Free {
     pub count: u64,

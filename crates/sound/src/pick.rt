@@ -1,37 +1,19 @@
 // The free pages, from the marks alone.
 use crate::Free;
-use crate::Lowest;
 use table::Frame;
 use table::PageNumber;
 ghost use mathlib.Core.Path.{_≡_};
 ghost use mathlib.Core.Bool.{true};
-ghost use mathlib.Core.List.{List, _++_};
-ghost use Prim.Native.Nat.{ℕ, _+_, _<_, _^_};
-ghost use lib.ListN.{length};
-ghost use Rattle.model.specs.Numbers.{if_then_else_};
+ghost use mathlib.Core.List.{List};
+ghost use Prim.Native.Nat.{ℕ, _<_, _^_};
 ghost use Rattle.model.specs.Frame.{boundsOk};
 ghost use Rattle.table.specs.Views.{frameOver};
-ghost use Rattle.sound.specs.Free.{clearPages, lowestOf, freeOf, withPage};
-
-// The lowest lent page whose mark is not set.
-pub fn lowest_free(f: Frame, n: usize, used: &[bool; 256]) -> Lowest
-    requires { ⌜ boundsOk (frameOver f n) ≡ true ⌝ }
-    ensures { λ r. ⌜ r ≡ lowestOf (clearPages (frameOver f n) (now (used .entry))) ⌝ }
-{
-    let first = f.first.0;
-    let pages = n / 512;
-    for at in 0..pages {
-        if !used[at] {
-            return Lowest::Page(PageNumber(first + at as u64));
-        }
-    }
-    Lowest::Nothing
-}
+ghost use Rattle.sound.specs.Free.{clearPages, listed, withPage};
 
 // One page more, below the others, if it is not marked.
 fn with_page(above: Free, marked: bool, page: PageNumber) -> Free
     requires { ⌜ above .count < 2 ^ 63 ⌝ }
-    ensures { λ r. ⌜ ((pages : List ℕ) → above ≡ freeOf pages → r ≡ freeOf (withPage marked (page .0) pages)) ⌝ }
+    ensures { λ r. ⌜ ((pages : List ℕ) → above ≡ listed pages → r ≡ listed (withPage marked (page .0) pages)) ⌝ }
 {
     if marked {
         return above;
@@ -47,7 +29,7 @@ fn with_page(above: Free, marked: bool, page: PageNumber) -> Free
 // How many lent pages have no mark, and the two lowest: from the highest page down, so that the last two met are the lowest.
 pub fn free_pages(f: Frame, n: usize, used: &[bool; 256]) -> Free
     requires { ⌜ boundsOk (frameOver f n) ≡ true ⌝ }
-    ensures { λ r. ⌜ r ≡ freeOf (clearPages (frameOver f n) (now (used .entry))) ⌝ }
+    ensures { λ r. ⌜ r ≡ listed (clearPages (frameOver f n) (now (used .entry))) ⌝ }
 {
     let first = f.first.0;
     let pages = n / 512;

@@ -7,6 +7,7 @@ use Rattle.model.specs.Entry as entry
 use Rattle.model.specs.Frame as frame
 use Rattle.model.specs.Access as access
 use Rattle.model.specs.Lookup as lookup
+use Rattle.model.specs.Fence as fence
 use Rattle.table.specs.declared.Frame.{Frame}
 use Rattle.table.specs.declared.Permission.{Permission}
 use Rattle.table.specs.declared.Permission.the-variants.{None, Rx, Rw, Rwx}
@@ -24,6 +25,8 @@ use Rattle.table.specs.declared.Refusal.{Refusal}
 use Rattle.table.specs.declared.Refusal.the-variants as refusal
 use Rattle.table.specs.declared.Answer.{Answer}
 use Rattle.table.specs.declared.Answer.the-variants as answer
+use Rattle.table.specs.declared.Fence.{Fence}
+use Rattle.table.specs.declared.Fence.the-variants.{Nothing, Domain, One}
 use Rattle.table.specs.declared.Entry.{Entry}
 use Rattle.table.specs.declared.Entry.the-variants.{Flat, Pieces, Table, Invalid}
 use Rattle.table.specs.declared.Found.{Found}
@@ -86,6 +89,12 @@ abbrev pub answerOf : Answer → access.Answer
 answerOf answer.Allowed = access.allowed
 answerOf (answer.Fault c) = access.fault (causeNumber c)
 answerOf (answer.Refused r) = access.refused (refusalNumber r)
+
+-- the fence that a call asks for
+abbrev pub fenceOf : Fence → fence.Fence
+fenceOf Nothing = fence.noFence
+fenceOf (Domain sdid) = fence.domainFence (sdid .0)
+fenceOf (One address sdid) = fence.addressFence (address .0) (sdid .0)
 
 -- what an L2 entry says of its block
 abbrev pub entryOf : Entry → entry.Entry

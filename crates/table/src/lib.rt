@@ -77,6 +77,13 @@ pub enum Answer {
     Refused(Refusal),
 }
 
+// The fence that a call asks for: none, the whole domain, or one address of it. SDID 0 and address 0 are values like any other.
+pub enum Fence {
+    Nothing,
+    Domain(Sdid),
+    One(Address, Sdid),
+}
+
 // What an L2 entry says of its block: one permission, as its two bits; a permission for each piece; an L1 page; or nothing.
 pub enum Entry {
     Flat(u64),

@@ -6,13 +6,13 @@ use native.Mathlib.Omega.{arith}
 use lib.ListN.{length}
 use Rattle.table.proofs.Frames.{bounds, few-pages}
 use Rattle.sound.specs.declared.Free.{Free}
-use Rattle.sound.specs.Free.{clearPages, freeOf}
+use Rattle.sound.specs.Free.{clearPages, listed}
 use Rattle.sound.proofs.Clear.{clear, clear-all, clear-none, clear-few, below}
 use Rattle.sound.proofs.pick.free_pages.Statement.{statement}
 use Rattle.sound.proofs.pick.free_pages.Tie as tie
 
 abbrev Inv-loop : tie.InvT-loop
-Inv-loop n used first pages free₀ i₀ free i = (i ≤ pages) × (pages ≤ 256) × (first ≤ 2 ^ 22) × (free ≡ freeOf (clear used first pages i (pages - i)))
+Inv-loop n used first pages free₀ i₀ free i = (i ≤ pages) × (pages ≤ 256) × (first ≤ 2 ^ 22) × (free ≡ listed (clear used first pages i (pages - i)))
 
 abbrev μ-loop : tie.MeasureT-loop
 μ-loop n used first pages free₀ i₀ free i = pages - i
@@ -20,7 +20,7 @@ abbrev μ-loop : tie.MeasureT-loop
 loop-holds : tie.Need-loop-holds Inv-loop μ-loop
 unfolding headD
 loop-holds c = let h = bounds _ (c .pre) in
-    (omega arith, omega arith, omega (arith, few-pages _ (h .paw-high)), ap freeOf (sym (clear-none _ _ _ _)))
+    (omega arith, omega arith, omega (arith, few-pages _ (h .paw-high)), ap listed (sym (clear-none _ _ _ _)))
 
 sub-at : tie.Need-sub-at Inv-loop μ-loop
 sub-at c = omega arith
@@ -49,7 +49,7 @@ loop-less c = omega arith
 loop-again : tie.Need-loop-again Inv-loop μ-loop
 loop-again c = let l = c .before .before .before in
     let h : l .loop .i < l .before .args .n / 512 = omega arith in
-    (omega arith, omega arith, omega arith, c .with-page .ensures _ (l .loop .inv .3) ∙ ap freeOf (below _ _ _ (l .loop .i) h))
+    (omega arith, omega arith, omega arith, c .with-page .ensures _ (l .loop .inv .3) ∙ ap listed (below _ _ _ (l .loop .i) h))
 
 returns : tie.Need-returns Inv-loop μ-loop
 unfolding clearPages
@@ -57,7 +57,7 @@ returns c = let l = c .before in
     let a = l .before .args in
     let e : l .loop .i ≡ a .n / 512 = omega arith in
     let z : a .n / 512 - l .loop .i ≡ 0 = omega arith in
-    l .loop .inv .3 ∙ ap freeOf (clear-all _ _ _ _ _ e z)
+    l .loop .inv .3 ∙ ap listed (clear-all _ _ _ _ _ e z)
 
 pub free-pages-spec : {M : Type 1} → statement M
 free-pages-spec =

@@ -6,18 +6,18 @@ use lib.ListN.{length}
 use native.Mathlib.Numerals.{add-one}
 use Rattle.table.specs.declared.PageNumber.{PageNumber}
 use Rattle.sound.specs.declared.Free.{Free}
-use Rattle.sound.specs.Free.{freeOf}
+use Rattle.sound.specs.Free.{listed}
 use borrow.Author.Needs.{needs}
 use Rattle.sound.proofs.pick.with_page.Statement.{statement}
 use Rattle.sound.proofs.pick.with_page.Tie as tie
 
 -- a page that is not marked, below some
-more : (above : Free) (page : PageNumber) (pages : List ℕ) → above ≡ freeOf pages
-    → _≡_ {A = Free} (record { count = above .count + 1; first = page; second = above .first }) (freeOf (page .0 ∷ pages))
+more : (above : Free) (page : PageNumber) (pages : List ℕ) → above ≡ listed pages
+    → _≡_ {A = Free} (record { count = above .count + 1; first = page; second = above .first }) (listed (page .0 ∷ pages))
 unfolding headD
 more above page pages e =
     ap (λ (x : Free). record { count = x .count + 1; first = page; second = x .first }) e
-    ∙ ap (λ (n : ℕ). record { count = n; first = page; second = freeOf pages .first }) (add-one (length pages))
+    ∙ ap (λ (n : ℕ). record { count = n; first = page; second = listed pages .first }) (add-one (length pages))
 
 returns : tie.Need-returns
 returns c = λ pages e. rw (c .if1 .taken) e
