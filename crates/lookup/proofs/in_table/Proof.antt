@@ -1,0 +1,53 @@
+-- `lookup::in_table` meets its contract.
+use mathlib.Core.Path.{_≡_, sym, ap, _∙_}
+use Prim.Native.Nat.{ℕ, _%_}
+use Rattle.model.specs.Layout.{rv64}
+use Rattle.model.specs.Entry.{fieldOf}
+use Rattle.model.specs.Walk.{found, pn0, pn1}
+use Rattle.table.proofs.Frames.{word-at}
+use borrow.Author.Needs.{needs}
+use Rattle.lookup.proofs.in_table.Statement.{statement}
+use Rattle.lookup.proofs.in_table.Tie as tie
+
+is-lent-requires : tie.Need-is-lent-requires
+is-lent-requires c κs = search needs
+
+page-start-requires : tie.Need-page-start-requires
+page-start-requires c κs = sym (c .before .is-lent .ensures) ∙ c .if1 .taken
+
+add-at : tie.Need-add-at
+add-at c = search needs
+
+mul-field-found : tie.Need-mul-field-found
+mul-field-found c = search needs
+
+shared-slice-read-field-found : tie.Need-shared-slice-read-field-found
+shared-slice-read-field-found c = search needs
+
+field-found-requires : tie.Need-field-found-requires
+field-found-requires c κs = search needs
+
+returns : tie.Need-returns
+unfolding found pn0 pn1
+returns c = let p = c .before .before in
+    let b = p .before in
+    c .field-found .ensures
+    ∙ rw (sym (b .before .is-lent .ensures) ∙ b .if1 .taken)
+    (ap (λ (w : ℕ). fieldOf rv64 w (b .before .before .before .args .page .0 % 16)) (word-at _ _ _ _ _ (p .page-start .ensures .0)))
+
+returns-2 : tie.Need-returns-2
+unfolding found
+returns-2 c = rw (sym (c .before .is-lent .ensures) ∙ c .if1 .left)
+
+pub in-table-spec : {M : Type 1} → statement M
+in-table-spec =
+    tie.close
+    (tie.spec
+    is-lent-requires
+    page-start-requires
+    add-at
+    mul-field-found
+    shared-slice-read-field-found
+    field-found-requires
+    returns
+    returns-2)

@@ -1,0 +1,28 @@
+-- `lookup::walk` meets its contract.
+use borrow.Author.Tests.{lt-ltb, le-ltb}
+use Rattle.model.specs.Walk.{walk, pn2}
+use borrow.Author.Needs.{needs}
+use Rattle.lookup.proofs.walk.Statement.{statement}
+use Rattle.lookup.proofs.walk.Tie as tie
+
+page-count-requires : tie.Need-page-count-requires
+page-count-requires c κs = search needs
+
+entry-at-requires : tie.Need-entry-at-requires
+entry-at-requires c κs = search needs
+
+found-requires : tie.Need-found-requires
+found-requires c κs = search needs
+
+returns : tie.Need-returns
+unfolding walk pn2
+returns c = let t = c .before .before in
+    rw (← t .before .page-count .ensures .0, lt-ltb _ _ (t .if1 .taken), ← c .before .entry-at .ensures .0) (c .found .ensures)
+
+returns-2 : tie.Need-returns-2
+unfolding walk
+returns-2 c = rw (← c .before .page-count .ensures .0, le-ltb _ _ (c .if1 .left))
+
+pub walk-spec : {M : Type 1} → statement M
+walk-spec =
+    tie.close (tie.spec page-count-requires entry-at-requires found-requires returns returns-2)

@@ -1,0 +1,118 @@
+// The lookup: frame, register, privilege, Bare, walk, permission.
+use table::Address;
+use table::Answer;
+use table::Entry;
+use table::Found;
+use table::Frame;
+use table::Kind;
+use table::PageNumber;
+use table::Privilege;
+use table::Refusal;
+use table::lent;
+use table::register;
+use table::rights;
+use table::word;
+ghost use mathlib.Core.Path.{_≡_};
+ghost use mathlib.Core.Bool.{true};
+ghost use Prim.Native.Nat.{_<_};
+ghost use lib.ListN.{length};
+ghost use Rattle.model.specs.Frame.{boundsOk};
+ghost use Rattle.model.specs.Walk as walk;
+ghost use Rattle.model.specs.Access as access;
+ghost use Rattle.model.specs.Lookup as lookup;
+ghost use Rattle.table.specs.Views.{frameOf, entryOf, foundOf, kindOf, privilegeOf, answerOf};
+ghost use Rattle.table.specs.Bounds.{Small};
+
+// The first stage: L2 entry b of a root, decoded once. It says nothing where the root page is not lent.
+pub fn entry_at(f: Frame, words: &[u64], root: PageNumber, b: u64) -> Entry
+    requires { ⌜ b < 512 ⌝ }
+    ensures { λ r. ⌜ (entryOf r ≡ walk.entryAt (frameOf f (now (words .entry))) (now (words .entry)) (root .0) b) × Small (entryOf r) ⌝ }
+{
+    if lent::is_lent(f, words.len(), root) {
+        let at = lent::page_start(f, words.len(), root) + b as usize;
+        return word::decode(words[at]);
+    }
+    Entry::Invalid
+}
+
+// The field of an L1 page that speaks for a page: the entry by pn[1], its field by pn[0].
+fn in_table(f: Frame, words: &[u64], table: PageNumber, page: PageNumber) -> Found
+    ensures { λ r. ⌜ foundOf r ≡ walk.found (frameOf f (now (words .entry))) (now (words .entry)) (entryOf (Entry.Table table)) (page .0) ⌝ }
+{
+    let number = page.0;
+    if lent::is_lent(f, words.len(), table) {
+        let at = lent::page_start(f, words.len(), table) + (number / 16 % 512) as usize;
+        return word::field_found(words[at], number % 16);
+    }
+    Found::Fault
+}
+
+// The second stage: what an L2 entry finds for a page of its block.
+pub fn found(f: Frame, words: &[u64], e: Entry, page: PageNumber) -> Found
+    requires { ⌜ Small (entryOf e) ⌝ }
+    ensures { λ r. ⌜ foundOf r ≡ walk.found (frameOf f (now (words .entry))) (now (words .entry)) (entryOf e) (page .0) ⌝ }
+{
+    match e {
+        Entry::Flat(p) => Found::Grant(rights::permission_of(p)),
+        Entry::Pieces(info) => {
+            Found::Grant(rights::permission_of(word::piece(info, page.0 % 8192 / 512)))
+        }
+        Entry::Table(table) => in_table(f, words, table, page),
+        Entry::Invalid => Found::Fault,
+    }
+}
+
+// "An address of 2^PAW or more faults."
+pub fn walk(f: Frame, words: &[u64], root: PageNumber, page: PageNumber) -> Found
+    requires { ⌜ boundsOk (frameOf f (now words)) ≡ true ⌝ }
+    ensures { λ r. ⌜ foundOf r ≡ walk.walk (frameOf f (now (words .entry))) (now (words .entry)) (root .0) (page .0) ⌝ }
+{
+    let number = page.0;
+    if number < lent::page_count(f, words.len()) {
+        return found(f, words, entry_at(f, words, root, number / 8192), page);
+    }
+    Found::Fault
+}
+
+fn judge(found: Found, kind: Kind) -> Answer
+    ensures { λ r. ⌜ answerOf r ≡ access.judge (foundOf found) (kindOf kind) ⌝ }
+{
+    match found {
+        Found::Grant(p) => {
+            if rights::may(p, rights::need_of(kind)) {
+                return Answer::Allowed;
+            }
+            Answer::Fault(rights::cause_of(kind))
+        }
+        Found::Fault => Answer::Fault(rights::cause_of(kind)),
+    }
+}
+
+// "A lookup checks the frame, then the register, then: effective privilege M is allowed; Bare is allowed; else the walk."
+pub fn lookup(
+    f: Frame,
+    words: &[u64],
+    register: u64,
+    who: Privilege,
+    kind: Kind,
+    a: Address,
+) -> Answer
+    ensures { λ r. ⌜ answerOf r ≡ lookup.lookup (frameOf f (now (words .entry))) (now (words .entry)) register (privilegeOf who) (a .0) (kindOf kind) ⌝ }
+{
+    if !lent::frame_ok(f, words) {
+        return Answer::Refused(Refusal::Frame);
+    }
+    if !register::register_ok(register) {
+        return Answer::Refused(Refusal::Register);
+    }
+    if rights::is_machine(who) {
+        return Answer::Allowed;
+    }
+    if register::is_bare(register) {
+        return Answer::Allowed;
+    }
+    judge(
+        walk(f, words, register::ppn(register), lent::page_of(a)),
+        kind,
+    )
+}

@@ -1,0 +1,58 @@
+-- `sound::claim` meets its contract.
+use mathlib.Core.Path.{_≡_, sym, _∙_}
+use mathlib.Core.Bool.{true}
+use Prim.Native.Nat.{_+_, _≤_, _<_}
+use native.Mathlib.Omega.{arith}
+use Rattle.model.specs.Frame.{lent}
+use Rattle.table.specs.Views.{frameOver}
+use Rattle.table.proofs.Frames.{bounds, lent-in}
+use Rattle.sound.specs.Scan.{claimOf, markOf}
+use borrow.Author.Needs.{needs}
+use Rattle.sound.proofs.claim.Statement.{statement}
+use Rattle.sound.proofs.claim.Tie as tie
+
+lent-here : (c : tie.Then1) → let a = c .before .before .args in lent (frameOver (a .f) (a .n)) (a .page .0) ≡ true
+lent-here c = sym (c .before .is-lent .ensures) ∙ c .if1 .taken
+
+-- the page's place among the marks
+inside : (c : tie.Then1) → let a = c .before .before .args in (a .f .first .0 ≤ a .page .0) × (a .page .0 < a .f .first .0 + 256)
+inside c =
+    let h = lent-in _ _ (lent-here c) in
+    let b = bounds _ (c .before .before .pre) in
+    (h .0, omega arith)
+
+is-lent-requires : tie.Need-is-lent-requires
+is-lent-requires c κs = search needs
+
+sub-at : tie.Need-sub-at
+sub-at c = let h = inside (c .before .before) in omega arith
+
+element-copy-out-if2 : tie.Need-element-copy-out-if2
+element-copy-out-if2 c = let h = inside (c .before .before) in omega arith
+
+returns : tie.Need-returns
+unfolding claimOf markOf
+returns c = rw (lent-here (c .before .before .before .before), c .if2 .taken)
+
+element-write-used : tie.Need-element-write-used
+element-write-used c = let h = inside (c .before .before .before .before) in omega arith
+
+returns-2 : tie.Need-returns-2
+unfolding claimOf markOf
+returns-2 c = rw (lent-here (c .before .before .before .before), c .if2 .left)
+
+returns-3 : tie.Need-returns-3
+unfolding claimOf
+returns-3 c = rw (sym (c .before .is-lent .ensures) ∙ c .if1 .left)
+
+pub claim-spec : {M : Type 1} → statement M
+claim-spec =
+    tie.close
+    (tie.spec
+    is-lent-requires
+    sub-at
+    element-copy-out-if2
+    returns
+    element-write-used
+    returns-2
+    returns-3)

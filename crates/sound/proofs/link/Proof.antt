@@ -1,0 +1,39 @@
+-- `sound::link` meets its contract.
+use mathlib.Core.Path.{_≡_, sym, ap, _∙_}
+use mathlib.Core.Bool.{Bool}
+use Rattle.model.specs.Numbers.{every}
+use Rattle.model.specs.Layout.{rv64}
+use Rattle.model.specs.Entry as entry
+use Rattle.model.specs.Sound.{cleanPage}
+use Rattle.table.proofs.Runs.{every-cong}
+use Rattle.table.proofs.Frames.{word-at}
+use Rattle.sound.specs.Scan.{answer, andThen, linkStep}
+use Rattle.sound.proofs.Steps.{claimed-lent}
+use borrow.Author.Needs.{needs}
+use Rattle.sound.proofs.link.Statement.{statement}
+use Rattle.sound.proofs.link.Tie as tie
+
+claim-requires : tie.Need-claim-requires
+claim-requires c κs = search needs
+
+page-start-requires : tie.Need-page-start-requires
+page-start-requires c κs = claimed-lent _ _ _ (rw (c .if1 .taken) at (c .before .claim .ensures))
+
+clean-requires : tie.Need-clean-requires
+clean-requires c κs = search needs
+
+returns : tie.Need-returns
+unfolding linkStep cleanPage
+returns c = let p = c .before in
+    let b = p .before in
+    rw (← b .before .claim .ensures, b .if1 .taken)
+    (ap (λ (r : Bool). answer r (b .before .claim .last .1 .1 .1 .0))
+    (c .clean .ensures ∙ every-cong _ _ 512 0 (λ i l u. ap (entry.clean rv64) (word-at _ _ _ i _ (p .page-start .ensures .0)))))
+
+returns-2 : tie.Need-returns-2
+unfolding linkStep
+returns-2 c = rw (← c .before .claim .ensures, c .if1 .left)
+
+pub link-spec : {M : Type 1} → statement M
+link-spec =
+    tie.close (tie.spec claim-requires page-start-requires clean-requires returns returns-2)

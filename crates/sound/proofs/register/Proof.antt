@@ -1,0 +1,67 @@
+-- `sound::register` meets its contract.
+use mathlib.Core.Path.{sym, ap, _∙_}
+use borrow.Author.Tests.{eq-eqb, ne-eqb}
+use Rattle.model.specs.Sound.{isOpen}
+use Rattle.sound.specs.Scan.{registerStep, markOf}
+use borrow.Author.Needs.{needs}
+use Rattle.sound.proofs.register.Statement.{statement}
+use Rattle.sound.proofs.register.Tie as tie
+
+returns : tie.Need-returns
+unfolding registerStep isOpen
+returns c = rw (eq-eqb _ _ (c .if1 .taken))
+
+mode-requires : tie.Need-mode-requires
+mode-requires c κs = search needs
+
+returns-2 : tie.Need-returns-2
+unfolding registerStep isOpen
+returns-2 c = let b = c .before .before in
+    rw (ne-eqb _ _ (b .if1 .left), ← c .before .mode .ensures .0, ne-eqb _ _ (c .if2 .taken))
+
+wpri-requires : tie.Need-wpri-requires
+wpri-requires c κs = search needs
+
+returns-3 : tie.Need-returns-3
+unfolding registerStep isOpen
+returns-3 c = let w = c .before in
+    let t = w .before in
+    rw (ne-eqb _ _ (t .before .before .if1 .left), ← t .before .mode .ensures .0, eq-eqb _ _ (t .if2 .left), ← w .wpri .ensures .0, ne-eqb _ _ (c .if3 .taken))
+
+sdid-requires : tie.Need-sdid-requires
+sdid-requires c κs = search needs
+
+element-copy-out-if4 : tie.Need-element-copy-out-if4
+element-copy-out-if4 c = search needs
+
+returns-4 : tie.Need-returns-4
+unfolding registerStep markOf isOpen
+returns-4 c = let s = c .before .before in
+    let w = s .before .before in
+    let t = w .before in
+    rw (ne-eqb _ _ (t .before .before .if1 .left), ← t .before .mode .ensures .0, eq-eqb _ _ (t .if2 .left), ← w .wpri .ensures .0, eq-eqb _ _ (s .before .if3 .left), ← s .sdid .ensures .0, c .if4 .taken)
+
+element-write-held : tie.Need-element-write-held
+element-write-held c = search needs
+
+returns-5 : tie.Need-returns-5
+unfolding registerStep markOf isOpen
+returns-5 c = let s = c .before .before in
+    let w = s .before .before in
+    let t = w .before in
+    rw (ne-eqb _ _ (t .before .before .if1 .left), ← t .before .mode .ensures .0, eq-eqb _ _ (t .if2 .left), ← w .wpri .ensures .0, eq-eqb _ _ (s .before .if3 .left), ← s .sdid .ensures .0, c .if4 .left)
+
+pub register-spec : {M : Type 1} → statement M
+register-spec =
+    tie.close
+    (tie.spec
+    returns
+    mode-requires
+    returns-2
+    wpri-requires
+    returns-3
+    sdid-requires
+    element-copy-out-if4
+    returns-4
+    element-write-held
+    returns-5)

@@ -1,0 +1,203 @@
+// The whole-table check: one pass, each entry read once, with a mark for each page in use.
+pub mod pick;
+
+use table::Entry;
+use table::Frame;
+use table::PageNumber;
+use table::lent;
+use table::register;
+use table::word;
+ghost use mathlib.Core.Path.{_≡_};
+ghost use mathlib.Core.Bool.{true, false};
+ghost use Prim.Native.Nat.{_+_, _<_, _≤_};
+ghost use lib.ListN.{length, getD, replicate};
+ghost use Rattle.model.specs.Numbers.{every};
+ghost use Rattle.model.specs.Layout.{rv64};
+ghost use Rattle.model.specs.Entry as entry;
+ghost use Rattle.model.specs.Frame.{boundsOk, blocks, lent};
+ghost use Rattle.table.specs.Views.{frameOver, frameOf, entryOf};
+ghost use Rattle.sound.specs.Scan.{answer, scanAll, scanRun, claimOf, linkStep, entryStep, blockStep, rootStep, slotStep, registerStep, refusedCheck, checkedOf};
+
+// Whether the table is sound, and if so, a mark for each lent page that is in use.
+pub struct Checked {
+    pub sound: bool,
+    pub used: [bool; 256],
+}
+
+// How many pages are free, and the two lowest: an edit takes no more than two. Page 0, which is never lent, stands for none.
+pub struct Free {
+    pub count: u64,
+    pub first: PageNumber,
+    pub second: PageNumber,
+}
+
+// "All reserved bits in it are zero": the words are gathered by `|` and tested once.
+fn clean(words: &[u64], at: usize) -> bool
+    requires { ⌜ at + 512 ≤ length (now words) ⌝ }
+    ensures { λ r. ⌜ r ≡ every (λ i. entry.clean rv64 (getD (now (words .entry)) (at + i) 0)) 512 0 ⌝ }
+{
+    let mut all: u64 = 0;
+    for i in 0..512usize {
+        all |= words[at + i];
+    }
+    all & 0xCCCC_CCCC_CCCC_CCCC == 0
+}
+
+// Marks a page, if it is lent and not marked.
+fn claim(f: Frame, n: usize, page: PageNumber, used: &mut [bool; 256]) -> bool
+    requires { ⌜ boundsOk (frameOver f n) ≡ true ⌝ }
+    ensures { λ r. ⌜ answer r (now (used .exit)) ≡ claimOf (frameOver f n) (now (used .entry)) (page .0) ⌝ }
+{
+    if lent::is_lent(f, n, page) {
+        let at = (page.0 - f.first.0) as usize;
+        if used[at] {
+            return false;
+        }
+        used[at] = true;
+        return true;
+    }
+    false
+}
+
+// The page that a TYPE 4 entry names.
+fn link(f: Frame, words: &[u64], page: PageNumber, used: &mut [bool; 256]) -> bool
+    requires { ⌜ boundsOk (frameOf f (now words)) ≡ true ⌝ }
+    ensures { λ r. ⌜ answer r (now (used .exit)) ≡ linkStep (frameOf f (now (words .entry))) (now (words .entry)) (now (used .entry)) (page .0) ⌝ }
+{
+    if claim(f, words.len(), page, used) {
+        return clean(words, lent::page_start(f, words.len(), page));
+    }
+    false
+}
+
+fn entry(f: Frame, words: &[u64], e: Entry, used: &mut [bool; 256]) -> bool
+    requires { ⌜ boundsOk (frameOf f (now words)) ≡ true ⌝ }
+    ensures { λ r. ⌜ answer r (now (used .exit)) ≡ entryStep (frameOf f (now (words .entry))) (now (words .entry)) (now (used .entry)) (entryOf e) ⌝ }
+{
+    match e {
+        Entry::Flat(_) => true,
+        Entry::Pieces(_) => true,
+        Entry::Table(page) => link(f, words, page, used),
+        Entry::Invalid => false,
+    }
+}
+
+// "The first 2^(PAW-25) entries" of a root; "the rest of the page is never read".
+fn entries(f: Frame, words: &[u64], root: PageNumber, used: &mut [bool; 256]) -> bool
+    requires { ⌜ (boundsOk (frameOf f (now words)) ≡ true) × (lent (frameOf f (now words)) (root .0) ≡ true) ⌝ }
+    ensures { λ r. ⌜ answer r (now (used .exit)) ≡ scanRun (blockStep (frameOf f (now (words .entry))) (now (words .entry)) (root .0)) (now (used .entry)) (blocks (frameOf f (now (words .entry)))) 0 ⌝ }
+{
+    let count = lent::block_count(f, words.len());
+    let at = lent::page_start(f, words.len(), root);
+    for b in 0..count {
+        if !entry(f, words, word::decode(words[at + b]), used) {
+            return false;
+        }
+    }
+    true
+}
+
+// A root: the page itself, then its entries.
+fn root(f: Frame, words: &[u64], page: PageNumber, used: &mut [bool; 256]) -> bool
+    requires { ⌜ boundsOk (frameOf f (now words)) ≡ true ⌝ }
+    ensures { λ r. ⌜ answer r (now (used .exit)) ≡ rootStep (frameOf f (now (words .entry))) (now (words .entry)) (now (used .entry)) (page .0) ⌝ }
+{
+    if claim(f, words.len(), page, used) {
+        return entries(f, words, page, used);
+    }
+    false
+}
+
+fn slot(f: Frame, words: &[u64], register: u64, used: &mut [bool; 256]) -> bool
+    requires { ⌜ boundsOk (frameOf f (now words)) ≡ true ⌝ }
+    ensures { λ r. ⌜ answer r (now (used .exit)) ≡ slotStep (frameOf f (now (words .entry))) (now (words .entry)) (now (used .entry)) register ⌝ }
+{
+    if register == 0 {
+        return true;
+    }
+    root(f, words, register::ppn(register), used)
+}
+
+fn tables(f: Frame, words: &[u64], slots: [u64; 8], used: &mut [bool; 256]) -> bool
+    requires { ⌜ boundsOk (frameOf f (now words)) ≡ true ⌝ }
+    ensures { λ r. ⌜ answer r (now (used .exit)) ≡ scanAll (slotStep (frameOf f (now (words .entry))) (now (words .entry))) (now (used .entry)) slots ⌝ }
+{
+    for i in 0..8usize {
+        if !slot(f, words, slots[i], used) {
+            return false;
+        }
+    }
+    true
+}
+
+// A slot's register; held has a mark for each SDID.
+fn register(r: u64, held: &mut [bool; 64]) -> bool
+    ensures { λ r′. ⌜ answer r′ (now (held .exit)) ≡ registerStep (now (held .entry)) r ⌝ }
+{
+    if r == 0 {
+        return true;
+    }
+    if register::mode(r) != 1 {
+        return false;
+    }
+    if register::wpri(r) != 0 {
+        return false;
+    }
+    let at = register::sdid(r).0 as usize;
+    if held[at] {
+        return false;
+    }
+    held[at] = true;
+    true
+}
+
+fn registers(slots: [u64; 8], held: &mut [bool; 64]) -> bool
+    ensures { λ r. ⌜ answer r (now (held .exit)) ≡ scanAll registerStep (now (held .entry)) slots ⌝ }
+{
+    for i in 0..8usize {
+        if !register(slots[i], held) {
+            return false;
+        }
+    }
+    true
+}
+
+fn no_pages() -> [bool; 256]
+    ensures { λ r. ⌜ r ≡ replicate 256 false ⌝ }
+{
+    [false; 256]
+}
+
+fn no_sdids() -> [bool; 64]
+    ensures { λ r. ⌜ r ≡ replicate 64 false ⌝ }
+{
+    [false; 64]
+}
+
+fn unsound() -> Checked
+    ensures { λ r. ⌜ r ≡ refusedCheck ⌝ }
+{
+    Checked {
+        sound: false,
+        used: no_pages(),
+    }
+}
+
+// "A sound table": the registers of the open slots, then their tables.
+pub fn check(f: Frame, words: &[u64], slots: [u64; 8]) -> Checked
+    requires { ⌜ boundsOk (frameOf f (now words)) ≡ true ⌝ }
+    ensures { λ r. ⌜ r ≡ checkedOf (frameOf f (now (words .entry))) (now (words .entry)) slots ⌝ }
+{
+    let mut held = no_sdids();
+    let mut used = no_pages();
+    if !registers(slots, &mut held) {
+        return unsound();
+    }
+    if !tables(f, words, slots, &mut used) {
+        return unsound();
+    }
+    Checked {
+        sound: true,
+        used: used,
+    }
+}

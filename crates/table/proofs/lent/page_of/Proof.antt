@@ -1,0 +1,12 @@
+-- `table::lent::page_of` meets its contract.
+use mathlib.Core.Path.{refl}
+use Rattle.model.specs.Frame.{pageOf}
+use Rattle.table.proofs.lent.page_of.Statement.{statement}
+use Rattle.table.proofs.lent.page_of.Tie as tie
+
+returns : tie.Need-returns
+unfolding pageOf
+returns c = refl
+
+pub page-of-spec : {M : Type 1} → statement M
+page-of-spec = tie.close (tie.spec returns)

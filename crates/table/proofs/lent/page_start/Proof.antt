@@ -1,0 +1,20 @@
+-- `table::lent::page_start` meets its contract.
+use mathlib.Core.Path.{refl}
+use native.Mathlib.Omega.{arith}
+use Rattle.model.specs.Frame.{indexOf}
+use Rattle.table.proofs.Frames.{lent-in}
+use Rattle.table.proofs.lent.page_start.Statement.{statement}
+use Rattle.table.proofs.lent.page_start.Tie as tie
+
+sub-result : tie.Need-sub-result
+sub-result c = let h = lent-in _ _ (c .before .before .pre) in omega arith
+
+mul-result : tie.Need-mul-result
+mul-result c = let h = lent-in _ _ (c .before .before .pre) in omega arith
+
+returns : tie.Need-returns
+unfolding indexOf
+returns c = let h = lent-in _ _ (c .before .before .pre) in omega arith
+
+pub page-start-spec : {M : Type 1} → statement M
+page-start-spec = tie.close (tie.spec sub-result mul-result returns)

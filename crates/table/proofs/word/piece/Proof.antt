@@ -1,0 +1,18 @@
+-- `table::word::piece` meets its contract.
+use native.Mathlib.Omega.{arith}
+use Rattle.table.proofs.Digits.{digit-of-shift}
+use borrow.Author.Needs.{needs}
+use Rattle.table.proofs.word.piece.Statement.{statement}
+use Rattle.table.proofs.word.piece.Tie as tie
+
+mul-result : tie.Need-mul-result
+mul-result c = search needs
+
+shr-result : tie.Need-shr-result
+shr-result c = search needs
+
+returns : tie.Need-returns
+returns c = (digit-of-shift 2 (c .args .info) (c .args .i), omega arith)
+
+pub piece-spec : {M : Type 1} → statement M
+piece-spec = tie.close (tie.spec mul-result shr-result returns)

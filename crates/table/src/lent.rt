@@ -1,0 +1,88 @@
+// The frame: its bounds, which pages are lent, and where their words stand.
+use crate::Address;
+use crate::Frame;
+use crate::PageNumber;
+ghost use mathlib.Core.Path.{_≡_};
+ghost use mathlib.Core.Bool.{true};
+ghost use Prim.Native.Nat.{_+_, _<_, _≤_, _^_};
+ghost use Rattle.model.specs.Frame as frame;
+ghost use Rattle.table.specs.Views.{frameOf, frameOver};
+
+// A power of two.
+pub fn pow2(k: u64) -> u64
+    requires { ⌜ k < 64 ⌝ }
+    ensures { λ r. ⌜ r ≡ 2 ^ k ⌝ }
+{
+    1u64 << k
+}
+
+// The page number of an address: "offset bits 11:0".
+pub fn page_of(a: Address) -> PageNumber
+    ensures { λ r. ⌜ r .0 ≡ frame.pageOf (a .0) ⌝ }
+{
+    PageNumber(a.0 / 4096)
+}
+
+pub fn frame_ok(f: Frame, words: &[u64]) -> bool
+    ensures { λ r. ⌜ r ≡ frame.frameOk (frameOf f (now (words .entry))) (now (words .entry)) ⌝ }
+{
+    let paw = f.paw;
+    let first = f.first.0;
+    let n = words.len();
+    let pages = (n / 512) as u64;
+    if paw < 30 {
+        return false;
+    }
+    if 34 < paw {
+        return false;
+    }
+    if pages < 2 {
+        return false;
+    }
+    if 256 < pages {
+        return false;
+    }
+    if first < 1 {
+        return false;
+    }
+    if pow2(paw - 12) - pages < first {
+        return false;
+    }
+    n % 512 == 0
+}
+
+// "The first 2^(PAW-25) entries": the blocks of the address space.
+pub fn block_count(f: Frame, n: usize) -> usize
+    requires { ⌜ frame.boundsOk (frameOver f n) ≡ true ⌝ }
+    ensures { λ r. ⌜ (r ≡ frame.blocks (frameOver f n)) × (r ≤ 512) ⌝ }
+{
+    pow2(f.paw - 25) as usize
+}
+
+// The pages of the address space: "2^(PAW-12)".
+pub fn page_count(f: Frame, n: usize) -> u64
+    requires { ⌜ frame.boundsOk (frameOver f n) ≡ true ⌝ }
+    ensures { λ r. ⌜ (r ≡ frame.space (frameOver f n)) × (r ≤ 2 ^ 22) ⌝ }
+{
+    pow2(f.paw - 12)
+}
+
+pub fn is_lent(f: Frame, n: usize, page: PageNumber) -> bool
+    ensures { λ r. ⌜ r ≡ frame.lent (frameOver f n) (page .0) ⌝ }
+{
+    let pages = (n / 512) as u64;
+    let first = f.first.0;
+    let at = page.0;
+    if at < first {
+        return false;
+    }
+    at - first < pages
+}
+
+// Where the words of a lent page start: all 512 are inside.
+pub fn page_start(f: Frame, n: usize, page: PageNumber) -> usize
+    requires { ⌜ frame.lent (frameOver f n) (page .0) ≡ true ⌝ }
+    ensures { λ r. ⌜ (r ≡ frame.indexOf (frameOver f n) (page .0) 0) × (r + 512 ≤ n) ⌝ }
+{
+    ((page.0 - f.first.0) * 512) as usize
+}
