@@ -15,7 +15,7 @@ use Rattle.model.specs.Calls.{badRange, editRefusal, editRefusalWith, finished,
 use Rattle.model.specs.Demands.{Domain}
 use Rattle.laws.proofs.Choices.{and-both, and-true, not-false-true, or-false}
 use Rattle.laws.proofs.Times.{times}
-use Rattle.theory.proofs.Ranges.{Fair, fair}
+use Rattle.theory.proofs.Ranges.{GoodRange, good-range}
 use Rattle.theory.proofs.Domains.{domain-root, open-domain}
 
 -- ---- refusals in order
@@ -83,8 +83,8 @@ module _ (F : Frame) (slots : List Slot) (q : Request) where
       (none-first 7 _ _ (le-ltb _ _ (k .room)) first-empty)))))
 
   module _ (m : List ℕ) (k : Accept m) where
-    pub fair-of : Fair F q
-    fair-of = fair F q (k .range)
+    pub good-range-of : GoodRange F q
+    good-range-of = good-range F q (k .range)
 
     -- the edited domain is a domain, and its root is among the roots
     pub own-domain : Domain F slots (registerFor slots q)

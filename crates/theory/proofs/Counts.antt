@@ -30,7 +30,7 @@ use Rattle.theory.proofs.Finds.{field-clean}
 use Rattle.theory.proofs.Plans.{AllAt}
 use Rattle.theory.proofs.Forms.{forms-all, forms-length}
 use Rattle.theory.proofs.Free.{at-most-one}
-use Rattle.theory.proofs.Ranges.{Fair, touched-inside}
+use Rattle.theory.proofs.Ranges.{GoodRange, touched-inside}
 use Rattle.theory.proofs.Ends.{highEnd, lowEnd, one-side}
 
 -- ---- the stores of one block
@@ -189,7 +189,7 @@ module _ (F : Frame) (ok : Ok F) (q : Request) (m : List ℕ) (ro : ℕ) where
           (λ c. table-missed gibOne x p t z c)
 
     -- one store, and a page's more where an end of the range lies in the block
-    tight : (w : Fair F q) (gibOne : Bool) (x p : ℕ)
+    tight : (w : GoodRange F q) (gibOne : Bool) (x p : ℕ)
         → length (blockStores F m q ro (formIn F m q gibOne x e b) e b p) ≤ 1 + N * times b (lowEnd F q w ∷ highEnd F q w ∷ [])
     tight w gibOne x p =
         let ends : times b (lowEnd F q w ∷ highEnd F q w ∷ []) ≡ times b (lowEnd F q w ∷ []) + times b (highEnd F q w ∷ [])
@@ -252,7 +252,7 @@ many-blocks : (F : Frame) → Ok F → 32 ≤ blocks F
 unfolding blocks
 many-blocks F ok = pow-mono {i = 5} (omega (arith, ok .pawLow))
 
-pub count : (F : Frame) (ok : Ok F) (q : Request) → q .permission < 4 → Fair F q
+pub count : (F : Frame) (ok : Ok F) (q : Request) → q .permission < 4 → GoodRange F q
     → (m : List ℕ) (ro : ℕ) (rs : List ℕ) → Sound F rs m → 0 < times ro rs → ((i : ℕ) → getD m i 0 < 16 ^ F .layout .fields)
     → (fr : List ℕ) → length (storesFrom F m q ro (firstGib q * 32) (forms F m q ro) fr) ≤ blocks F - 2 + 2 * suc (F .layout .words)
 count F ok q low w m ro rs s root bound fr =

@@ -16,7 +16,7 @@ use Rattle.model.specs.Calls.{editRefusal, editSlot, editWith, finished, made, 
 use Rattle.model.specs.Demands.{Accepted, Demand2, Demand3, Done, Typed, calls, stopped, whole}
 use Rattle.theory.proofs.Entries.{Lawful, rv32-lawful, rv64-lawful}
 use Rattle.theory.proofs.Frames.{blocks-words}
-use Rattle.theory.proofs.Accepts.{Accept, fair-of, from-accept, root-in, to-accept}
+use Rattle.theory.proofs.Accepts.{Accept, from-accept, root-in, to-accept}
 use Rattle.theory.proofs.WholeCall.{Edit, Rel, accept-kept, ok-of}
 use Rattle.theory.proofs.Cuts.{calls-kept, same-of, steady-of, unstarted}
 use Rattle.theory.proofs.CutsFree.{free-of}
@@ -39,7 +39,7 @@ module _ (F : Frame) (lawful : Lawful (F .layout)) (slots : List Slot) (q : Requ
         samePermissions = same-of E m k m′ t;
         sameFree = free-of E m k m′ t;
         fewStores =
-            count F (ok-of E m k) q (typed .permission) (fair-of F slots q m k) m′
+            count F (ok-of E m k) q (typed .permission) (range-of F slots q m k) m′
             (rootOf F slots q) (roots F slots) (t .sound) (root-in F slots q m k) (t .low (typed .words)) (freePages F m′ (roots F slots));
       }
 

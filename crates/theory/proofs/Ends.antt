@@ -10,9 +10,9 @@ use Rattle.model.specs.Frame.{Frame}
 use Rattle.model.specs.Walk.{pn2}
 use Rattle.model.specs.Forms.{Request, inRange}
 use Rattle.laws.proofs.Choices.{and-both, split}
-use Rattle.theory.proofs.Ranges.{Fair}
+use Rattle.theory.proofs.Ranges.{GoodRange}
 
-module _ (F : Frame) (q : Request) (w : Fair F q) where
+module _ (F : Frame) (q : Request) (w : GoodRange F q) where
   -- the blocks of the range's two ends
   abbrev pub lowEnd : ℕ
   lowEnd = pn2 (q .start / 4096)

@@ -22,7 +22,7 @@ use Rattle.theory.proofs.Walks.{outside-space}
 use Rattle.theory.proofs.Finds.{after-inside, after-outside}
 use Rattle.theory.proofs.Ranges.{address-inside, address-outside, address-space}
 use Rattle.theory.proofs.Domains.{domain-root, domains-apart, same-read}
-use Rattle.theory.proofs.Accepts.{Accept, fair-of, own-domain, root-in}
+use Rattle.theory.proofs.Accepts.{Accept, own-domain, root-in}
 use Rattle.theory.proofs.WholeCall.{Edit, here-of, ok-of, sound-of, whole-form, whole-others, whole-reads, whole-step}
 
 module _ (E : Edit) (m : List ℕ) (k : Accept (E .F) (E .slots) (E .q) m) where
@@ -55,11 +55,11 @@ module _ (E : Edit) (m : List ℕ) (k : Accept (E .F) (E .slots) (E .q) m) where
   whole-done =
       record {
         inside = λ address lo hi.
-            let r = fair-of F slots q m k in
+            let r = range-of F slots q m k in
             whole-reads E m k (pageOf address) (address-space F q r (ok-of E m k) address hi)
             ∙ ap perm (after-inside F (ok-of E m k) m q R (pageOf address) (address-inside F q r address lo hi));
         outside = λ address out.
-            same-read F slots W m (registerFor slots q) address (own-outside (pageOf address) (address-outside F q (fair-of F slots q m k) address out));
+            same-read F slots W m (registerFor slots q) address (own-outside (pageOf address) (address-outside F q (range-of F slots q m k) address out));
         others = λ r d ne address.
             same-read F slots W m r address
             (either-side (ppnOf (F .layout) r) (pageOf address)

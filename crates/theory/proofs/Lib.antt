@@ -32,6 +32,8 @@
 --   Ends         the two ends of a range
 --   Counts       how many stores
 --   Demands      demands 2 and 3
+-- For the code
+--   SoundRoots   what a sound table says of an entry and of a root
 -- Opening and closing
 --   Slots        one slot changes
 --   Zeroed       a page that is zeroed
@@ -65,6 +67,7 @@ pub mod Finished
 pub mod Ends
 pub mod Counts
 pub mod Demands
+pub mod SoundRoots
 pub mod Slots
 pub mod Zeroed
 pub mod Registers

@@ -16,15 +16,15 @@ use Rattle.laws.proofs.Choices.{and-both, and-true, not-false-true, or-false, s
 use Rattle.theory.proofs.Frames.{Ok}
 
 -- what it says that refusal 5 does not fit
-pub record Fair (F : Frame) (q : Request) : Type 0 where
+pub record GoodRange (F : Frame) (q : Request) : Type 0 where
   pub some : 0 < q .size
   pub startPage : q .start % pageBytes ≡ 0
   pub sizePage : q .size % pageBytes ≡ 0
   pub ends : q .start + q .size ≤ 2 ^ F .paw
 
-pub fair : (F : Frame) (q : Request) → badRange F q ≡ false → Fair F q
+pub good-range : (F : Frame) (q : Request) → badRange F q ≡ false → GoodRange F q
 unfolding badRange
-fair F q h =
+good-range F q h =
     let a = or-false (eqb (q .size) 0 || not (eqb (q .start % pageBytes) 0) || not (eqb (q .size % pageBytes) 0)) (ltb (2 ^ F .paw) (q .start + q .size)) h in
     let b = or-false (eqb (q .size) 0 || not (eqb (q .start % pageBytes) 0)) (not (eqb (q .size % pageBytes) 0)) (a .0) in
     let c = or-false (eqb (q .size) 0) (not (eqb (q .start % pageBytes) 0)) (b .0) in
@@ -46,7 +46,7 @@ module _ (F : Frame) (q : Request) where
       let u = ltb-true (n * pageBytes) (q .start + q .size) (a .1) in
       (omega arith, omega arith)
 
-  module _ (r : Fair F q) where
+  module _ (r : GoodRange F q) where
     -- the touched GiBs lie in the address space
     pub touched-inside : Ok F → firstGib q * gibBlocks + gibs q * gibBlocks ≤ blocks F
     unfolding firstGib gibs blocks

@@ -33,7 +33,7 @@ use Rattle.theory.proofs.OneCall.{Behind, So, one-call, past}
 use Rattle.theory.proofs.Forms.{forms-fit, forms-length, forms-same}
 use Rattle.theory.proofs.Free.{free-in, free-once, sound-free}
 use Rattle.theory.proofs.Ranges.{range-touched, touched-inside}
-use Rattle.theory.proofs.Accepts.{Accept, fair-of, root-in}
+use Rattle.theory.proofs.Accepts.{Accept, root-in}
 
 -- An edit that is asked, on a lawful layout: what all its calls share
 pub record Edit : Type 0 where
@@ -75,7 +75,7 @@ module _ (E : Edit) (m : List ℕ) (k : Accept (E .F) (E .slots) (E .q) m) where
   here-of = root-once F ok-of RS (λ x. omega (arith, sound-of .once x)) R (blocks-pos F ok-of) (root-in F slots q m k)
 
   pub inside-of : B + length (forms F m q R) ≤ blocks F
-  inside-of = omega (arith, forms-length F ok-of q low R m, touched-inside F q (fair-of F slots q m k) ok-of)
+  inside-of = omega (arith, forms-length F ok-of q low R m, touched-inside F q (range-of F slots q m k) ok-of)
 
   -- the call that finds m
   abbrev pub callOf : Call
@@ -114,7 +114,7 @@ module _ (E : Edit) (m : List ℕ) (k : Accept (E .F) (E .slots) (E .q) m) where
         perm-inj _ _ (sym a ∙ ⊎-elim (λ e. e ∙ b) (λ e. e .1) (t .reads R n (root-in F slots q m k) u)))
 
     pub forms-kept : forms F m′ q R ≡ forms F m q R
-    forms-kept = forms-same F ok-of q low R m m′ after-kept (touched-inside F q (fair-of F slots q m k) ok-of)
+    forms-kept = forms-same F ok-of q low R m m′ after-kept (touched-inside F q (range-of F slots q m k) ok-of)
 
     frame-kept : frameOk F m′ ≡ true
     unfolding frameOk
