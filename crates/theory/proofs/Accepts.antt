@@ -83,8 +83,8 @@ module _ (F : Frame) (slots : List Slot) (q : Request) where
       (none-first 7 _ _ (le-ltb _ _ (k .room)) first-empty)))))
 
   module _ (m : List ℕ) (k : Accept m) where
-    pub good-range-of : GoodRange F q
-    good-range-of = good-range F q (k .range)
+    pub range-of : GoodRange F q
+    range-of = good-range F q (k .range)
 
     -- the edited domain is a domain, and its root is among the roots
     pub own-domain : Domain F slots (registerFor slots q)

@@ -16,7 +16,7 @@ use Rattle.model.specs.Calls.{editRefusal, editSlot, editWith, finished, made, 
 use Rattle.model.specs.Demands.{Accepted, Demand2, Demand3, Done, Typed, calls, stopped, whole}
 use Rattle.theory.proofs.Entries.{Lawful, rv32-lawful, rv64-lawful}
 use Rattle.theory.proofs.Frames.{blocks-words}
-use Rattle.theory.proofs.Accepts.{Accept, from-accept, root-in, to-accept}
+use Rattle.theory.proofs.Accepts.{Accept, from-accept, range-of, root-in, to-accept}
 use Rattle.theory.proofs.WholeCall.{Edit, Rel, accept-kept, ok-of}
 use Rattle.theory.proofs.Cuts.{calls-kept, same-of, steady-of, unstarted}
 use Rattle.theory.proofs.CutsFree.{free-of}

@@ -33,7 +33,7 @@ use Rattle.theory.proofs.OneCall.{Behind, So, one-call, past}
 use Rattle.theory.proofs.Forms.{forms-fit, forms-length, forms-same}
 use Rattle.theory.proofs.Free.{free-in, free-once, sound-free}
 use Rattle.theory.proofs.Ranges.{range-touched, touched-inside}
-use Rattle.theory.proofs.Accepts.{Accept, root-in}
+use Rattle.theory.proofs.Accepts.{Accept, range-of, root-in}
 
 -- An edit that is asked, on a lawful layout: what all its calls share
 pub record Edit : Type 0 where
