@@ -1,0 +1,6 @@
+--   EntryLaws   L1 entries: digits, old and new words, runs of pages, forms of a block
+--   GibLaws     the blocks of a GiB
+--   CountLaws   the new pages of an edit, counted block by block
+pub mod EntryLaws
+pub mod GibLaws
+pub mod CountLaws

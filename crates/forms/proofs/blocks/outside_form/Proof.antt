@@ -1,0 +1,73 @@
+use mathlib.Core.Path.{_≡_, refl, sym, ap, _∙_}
+use Prim.Native.Nat.{ℕ, _/_, _<_}
+use native.Mathlib.Omega.{arith}
+use borrow.Author.Needs.{needs}
+use lib.ListN.{length}
+use Rattle.forms.proofs.EntryLaws.{form-flat-out, form-pieces-out}
+use Rattle.forms.specs.Kinds.{requestOf}
+use Rattle.table.specs.Views.{entryOf}
+use Rattle.forms.proofs.blocks.outside_form.Statement.{statement}
+use Rattle.forms.proofs.blocks.outside_form.Tie as tie
+
+enum-known-e : tie.Need-enum-known-e
+enum-known-e c = search needs
+
+mul-t9 : tie.Need-mul-t9
+mul-t9 c = let h : c .before .e .given .0 .0 < 4 = rw (c .before .e .given .1) at (c .before .before .before .before .pre .2) in record { fits = omega arith }
+
+enum-known-e-2 : tie.Need-enum-known-e-2
+enum-known-e-2 c = search needs
+
+pieces-form-requires : tie.Need-pieces-form-requires
+pieces-form-requires c κs = search needs
+
+enum-told : tie.Need-enum-told
+enum-told c = search needs
+
+pieces-form-requires-2 : tie.Need-pieces-form-requires-2
+pieces-form-requires-2 c κs = search needs
+
+enum-told-2 : tie.Need-enum-told-2
+enum-told-2 c = search needs
+
+pieces-form-requires-3 : tie.Need-pieces-form-requires-3
+pieces-form-requires-3 c κs = search needs
+
+returns : tie.Need-returns
+returns c =
+    let s = c .before .before .before .before in
+    let a = s .args in
+    form-flat-out (a .f .paw) (a .f .first .0) (length (a .words .now) / 512) (a .words .now) (requestOf (a .q)) (s .pre .1 .small) (entryOf (a .e)) (s .pre .2) (a .b) (s .pre .3) (c .before .e .given .0 .0) (ap entryOf (c .before .e .given .1))
+
+returns-2 : tie.Need-returns-2
+returns-2 c =
+    let s = c .before .before .before .before .before in
+    let a = s .args in
+    form-pieces-out (a .f .paw) (a .f .first .0) (length (a .words .now) / 512) (a .words .now) (requestOf (a .q)) (s .pre .1 .small) (entryOf (a .e)) (s .pre .2) (a .b) (s .pre .3) (c .before .before .e2 .given .0 .0) (ap entryOf (c .before .before .e2 .given .1)) (c .if1 .taken)
+
+returns-3 : tie.Need-returns-3
+returns-3 c = rw (c .before .before .before .e2 .given .1) (c .pieces-form .ensures)
+
+returns-4 : tie.Need-returns-4
+returns-4 c = c .pieces-form2 .ensures
+
+returns-5 : tie.Need-returns-5
+returns-5 c = c .pieces-form3 .ensures
+
+pub outside-form-spec : {M : Type 1} → statement M
+outside-form-spec =
+    tie.close
+    (tie.spec
+    enum-known-e
+    mul-t9
+    enum-known-e-2
+    pieces-form-requires
+    enum-told
+    pieces-form-requires-2
+    enum-told-2
+    pieces-form-requires-3
+    returns
+    returns-2
+    returns-3
+    returns-4
+    returns-5)

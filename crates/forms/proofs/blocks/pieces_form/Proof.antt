@@ -1,0 +1,126 @@
+use mathlib.Core.Path.{_≡_, refl, sym, ap, ap₂, _∙_, subst}
+use mathlib.Core.Bool.{Bool, true, false}
+use Prim.Native.Nat.{ℕ, _+_, _-_, _*_, _/_, _≤_, _<_, _^_}
+use native.Mathlib.Nat.{zero-add}
+use native.Mathlib.Omega.{arith}
+use borrow.Author.Needs.{needs}
+use borrow.Author.Tests.{not-true, not-false}
+use lib.ListN.{length}
+use Rattle.forms.proofs.EntryLaws.{firstOf, isOne, horner, every-down, every-fail, pack4-fits, after-small, form-pieces, form-table}
+use Rattle.forms.specs.Kinds.{requestOf}
+use Rattle.model.specs.Forms.{allAre, wantPieces}
+use Rattle.model.specs.Numbers.{pack, every}
+use Rattle.table.specs.Views.{frameOf, entryOf}
+use Rattle.forms.proofs.blocks.pieces_form.Statement.{statement}
+use Rattle.forms.proofs.blocks.pieces_form.Tie as tie
+
+abbrev Inv-loop : tie.InvT-loop
+Inv-loop f words q e b info₀ j₀ info j =
+    (j ≤ 16)
+    × (info ≡ pack 4 (firstOf (frameOf f words) words (requestOf q) (entryOf e) b) j (16 - j))
+    × (every (isOne (frameOf f words) words (requestOf q) (entryOf e) b) j (16 - j) ≡ true)
+
+abbrev μ-loop : tie.MeasureT-loop
+μ-loop f words q e b info₀ j₀ info j = 16 - j
+
+-- whether the turn's piece is of one permission
+turn-one : (c : tie.After-piece-is Inv-loop μ-loop) → let l = c .before .before .before in let a = l .before .before .args in
+    c .piece-is .result ≡ isOne (frameOf (a .f) (a .words .now)) (a .words .now) (requestOf (a .q)) (entryOf (a .e)) (a .b) (15 - l .loop .j)
+turn-one c =
+    let l = c .before .before .before in
+    let a = l .before .before .args in
+    c .piece-is .ensures
+    ∙ ap (λ (p : ℕ). allAre (frameOf (a .f) (a .words .now)) (a .words .now) (requestOf (a .q)) (entryOf (a .e)) p 512 (a .b * 8192 + (15 - l .loop .j) * 512)) (c .before .piece-first .ensures .0)
+
+turn-info : (c : tie.Else1 Inv-loop μ-loop) → let l = c .before .before .before .before in let a = l .before .before .args in
+    c .before .before .piece-first .result + 4 * l .loop .info ≡ pack 4 (firstOf (frameOf (a .f) (a .words .now)) (a .words .now) (requestOf (a .q)) (entryOf (a .e)) (a .b)) (l .loop .j + 1) (16 - (l .loop .j + 1))
+turn-info c =
+    let l = c .before .before .before .before in
+    let a = l .before .before .args in
+    horner 4 (firstOf (frameOf (a .f) (a .words .now)) (a .words .now) (requestOf (a .q)) (entryOf (a .e)) (a .b)) 16 0 (l .loop .j) (l .loop .info) (c .before .before .piece-first .result) (omega arith) (l .loop .inv .1) (c .before .before .piece-first .ensures .0 ∙ ap (firstOf (frameOf (a .f) (a .words .now)) (a .words .now) (requestOf (a .q)) (entryOf (a .e)) (a .b)) (sym (zero-add (15 - l .loop .j))))
+
+turn-fits : (c : tie.Else1 Inv-loop μ-loop) → c .before .before .piece-first .result + 4 * c .before .before .before .before .loop .info < 2 ^ 32
+turn-fits c =
+    let l = c .before .before .before .before in
+    let a = l .before .before .args in
+    let pre = l .before .before .pre in
+    subst (λ (k : ℕ). k < 2 ^ 32) (sym (turn-info c))
+    (pack4-fits (firstOf (frameOf (a .f) (a .words .now)) (a .words .now) (requestOf (a .q)) (entryOf (a .e)) (a .b))
+    (λ k. after-small (a .f .paw) (a .f .first .0) (length (a .words .now) / 512) (a .words .now) (requestOf (a .q)) (pre .1 .small) (entryOf (a .e)) (pre .2) (a .b * 8192 + k * 512))
+    (l .loop .j + 1) (16 - (l .loop .j + 1)) (omega arith))
+
+loop-holds : tie.Need-loop-holds Inv-loop μ-loop
+unfolding pack every
+loop-holds c = (omega arith, refl, refl)
+
+sub-piece-first : tie.Need-sub-piece-first Inv-loop μ-loop
+sub-piece-first c = omega arith
+
+piece-first-requires : tie.Need-piece-first-requires Inv-loop μ-loop
+piece-first-requires c κs = search needs
+
+sub-piece-is : tie.Need-sub-piece-is Inv-loop μ-loop
+sub-piece-is c = omega arith
+
+piece-is-requires : tie.Need-piece-is-requires Inv-loop μ-loop
+piece-is-requires c κs = search needs
+
+returns : tie.Need-returns Inv-loop μ-loop
+returns c =
+    let l = c .before .before .before .before in
+    let a = l .before .before .args in
+    form-table (a .f .paw) (a .f .first .0) (length (a .words .now) / 512) (a .words .now) (requestOf (a .q)) (entryOf (a .e)) (a .b)
+    (every-fail (isOne (frameOf (a .f) (a .words .now)) (a .words .now) (requestOf (a .q)) (entryOf (a .e)) (a .b)) 16 (15 - l .loop .j) (omega arith)
+    (sym (turn-one (c .before)) ∙ not-true _ (c .if1 .taken)))
+
+mul-info : tie.Need-mul-info Inv-loop μ-loop
+mul-info c = record { fits = omega (arith, turn-fits c) }
+
+add-info : tie.Need-add-info Inv-loop μ-loop
+add-info c = record { fits = omega (arith, turn-fits c) }
+
+add-j : tie.Need-add-j Inv-loop μ-loop
+add-j c = omega arith
+
+loop-less : tie.Need-loop-less Inv-loop μ-loop
+loop-less c = omega arith
+
+loop-again : tie.Need-loop-again Inv-loop μ-loop
+loop-again c =
+    let l = c .before .before .before .before in
+    let a = l .before .before .args in (
+      omega arith,
+      turn-info c,
+      every-down (isOne (frameOf (a .f) (a .words .now)) (a .words .now) (requestOf (a .q)) (entryOf (a .e)) (a .b)) 16 (l .loop .j) (omega arith) (l .loop .inv .2)
+          (sym (turn-one (c .before)) ∙ not-false _ (c .if1 .left)),
+    )
+
+returns-2 : tie.Need-returns-2 Inv-loop μ-loop
+returns-2 c =
+    let l = c .before in
+    let a = l .before .before .args in
+    let z : l .loop .j ≡ 16 = omega arith in
+    let g : ℕ → ℕ = firstOf (frameOf (a .f) (a .words .now)) (a .words .now) (requestOf (a .q)) (entryOf (a .e)) (a .b) in
+    let t : ℕ → Bool = isOne (frameOf (a .f) (a .words .now)) (a .words .now) (requestOf (a .q)) (entryOf (a .e)) (a .b) in
+    ap wantPieces (l .loop .inv .1 ∙ ap (λ (k : ℕ). pack 4 g k (16 - k)) z)
+    ∙ form-pieces (a .f .paw) (a .f .first .0) (length (a .words .now) / 512) (a .words .now) (requestOf (a .q)) (entryOf (a .e)) (a .b)
+    (ap (λ (k : ℕ). every t k (16 - k)) (sym z) ∙ l .loop .inv .2)
+
+pub pieces-form-spec : {M : Type 1} → statement M
+pieces-form-spec =
+    tie.close
+    (tie.spec
+    Inv-loop
+    μ-loop
+    loop-holds
+    sub-piece-first
+    piece-first-requires
+    sub-piece-is
+    piece-is-requires
+    returns
+    mul-info
+    add-info
+    add-j
+    loop-less
+    loop-again
+    returns-2)

@@ -1,0 +1,63 @@
+use mathlib.Core.Path.{_≡_, refl, sym, ap, _∙_, subst}
+use Prim.Native.Nat.{ℕ, _+_, _*_, _/_, _<_}
+use native.Mathlib.Omega.{arith}
+use lib.ListN.{length}
+use borrow.Author.Needs.{needs}
+use Rattle.forms.proofs.GibLaws.{inside-first, inside-one}
+use Rattle.forms.specs.Kinds.{requestOf}
+use Rattle.table.specs.Views.{frameOf, entryOf}
+use Rattle.theory.specs.Rooted.{Good}
+use Rattle.forms.proofs.gibs.gib_of.Statement.{statement}
+use Rattle.forms.proofs.gibs.gib_of.Tie as tie
+
+mul-lies : tie.Need-mul-lies
+mul-lies c = search needs
+
+lies-requires : tie.Need-lies-requires
+lies-requires c κs = search needs
+
+enum-told : tie.Need-enum-told
+enum-told c = search needs
+
+enum-told-2 : tie.Need-enum-told-2
+enum-told-2 c = search needs
+
+read-gib-requires : tie.Need-read-gib-requires
+read-gib-requires c κs = search needs
+
+enum-told-3 : tie.Need-enum-told-3
+enum-told-3 c = search needs
+
+read-gib-requires-2 : tie.Need-read-gib-requires-2
+read-gib-requires-2 c κs = search needs
+
+returns : tie.Need-returns
+returns c =
+    let a = c .before .before .before .before .args in
+    let pre = c .before .before .before .before .pre in
+    let h = rw (c .enum-told .given .1) at (c .before .before .lies .ensures) in (
+      inside-first (a .f .paw) (a .f .first .0) (length (a .words .now) / 512) (a .words .now) (requestOf (a .q)) (pre .2 .small) (a .root .0) (pre .0) (a .g) (pre .1) h,
+      inside-one (a .f .paw) (a .f .first .0) (length (a .words .now) / 512) (a .words .now) (requestOf (a .q)) (pre .2 .small) (a .root .0) (pre .0) (a .g) (pre .1) h,
+      pre .2 .small,
+    )
+
+returns-2 : tie.Need-returns-2
+returns-2 c = search needs
+
+returns-3 : tie.Need-returns-3
+returns-3 c = search needs
+
+pub gib-of-spec : {M : Type 1} → statement M
+gib-of-spec =
+    tie.close
+    (tie.spec
+    mul-lies
+    lies-requires
+    enum-told
+    enum-told-2
+    read-gib-requires
+    enum-told-3
+    read-gib-requires-2
+    returns
+    returns-2
+    returns-3)

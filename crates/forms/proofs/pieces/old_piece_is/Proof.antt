@@ -1,0 +1,106 @@
+use mathlib.Core.Path.{_≡_, refl, sym, ap, ap₂, _∙_, subst}
+use Prim.Native.Nat.{ℕ, _+_, _-_, _*_, _/_, _%_, _≤_, _<_, _^_}
+use native.Mathlib.Omega.{arith}
+use lib.ListN.{length, getD}
+use lib.Dec.{eqb}
+use borrow.Author.Needs.{needs}
+use Rattle.forms.proofs.EntryLaws.{run-outside, eqb-swap, index-add, piece-words}
+use Rattle.forms.specs.Kinds.{requestOf, spreadOf}
+use Rattle.model.specs.Entry.{Entry}
+use Rattle.model.specs.Forms.{allAre, permOf}
+use Rattle.model.specs.Frame.{indexOf}
+use Rattle.model.specs.Layout.{piecePages}
+use Rattle.model.specs.Numbers.{digit, every}
+use Rattle.model.specs.Walk.{found, pieceOf}
+use Rattle.table.specs.Views.{frameOf, entryOf}
+use Rattle.forms.proofs.pieces.old_piece_is.Statement.{statement}
+use Rattle.forms.proofs.pieces.old_piece_is.Tie as tie
+
+enum-known-e : tie.Need-enum-known-e
+enum-known-e c = search needs
+
+enum-known-e-2 : tie.Need-enum-known-e-2
+enum-known-e-2 c = search needs
+
+piece-requires : tie.Need-piece-requires
+piece-requires c κs = search needs
+
+enum-known-e-3 : tie.Need-enum-known-e-3
+enum-known-e-3 c = search needs
+
+page-at-requires : tie.Need-page-at-requires
+page-at-requires c κs = (rw (c .before .e3 .given .1) at (c .before .before .before .before .pre .4)) .0
+
+mul-at : tie.Need-mul-at
+mul-at c = search needs
+
+add-at : tie.Need-add-at
+add-at c = search needs
+
+spread-requires : tie.Need-spread-requires
+spread-requires c κs = search needs
+
+same-words-requires : tie.Need-same-words-requires
+same-words-requires c κs = search needs
+
+enum-told : tie.Need-enum-told
+enum-told c = search needs
+
+returns : tie.Need-returns
+unfolding found permOf
+returns c =
+    let a = c .before .before .before .before .args in
+    let pre = c .before .before .before .before .pre in
+    run-outside (a .f .paw) (a .f .first .0) (length (a .words .now) / 512) (a .words .now) (requestOf (a .q)) (pre .3 .small) (entryOf (a .e)) (pre .4) (a .p) (c .before .e .given .0 .0) 511 (a .b * 8192 + a .i * 512)
+    (pre .5) (λ k lo hi. rw (c .before .e .given .1))
+
+returns-2 : tie.Need-returns-2
+unfolding found permOf pieceOf
+returns-2 c =
+    let a = c .before .before .before .before .before .args in
+    let pre = c .before .before .before .before .before .pre in
+    ap (λ (x : ℕ). eqb x (a .p)) (c .piece .ensures .0)
+    ∙ run-outside (a .f .paw) (a .f .first .0) (length (a .words .now) / 512) (a .words .now) (requestOf (a .q)) (pre .3 .small) (entryOf (a .e)) (pre .4) (a .p) (digit 4 (c .before .before .e2 .given .0 .0) (a .i)) 511 (a .b * 8192 + a .i * 512)
+    (pre .5) (λ k lo hi. let z : k % 8192 / 512 ≡ a .i = omega arith in rw (c .before .before .e2 .given .1) (ap (digit 4 (c .before .before .e2 .given .0 .0)) z))
+
+returns-3 : tie.Need-returns-3
+returns-3 c =
+    let s = c .before .before .before .before .before .before .before in
+    let a = s .args in
+    let t : ℕ = c .before .before .before .before .e3 .given .0 .0 .0 in
+    let told = c .before .before .before .before .e3 .given .1 in
+    let F = frameOf (a .f) (a .words .now) in
+    let at : c .before .before .page-at .result + a .i * 32 ≡ indexOf F t (a .i * 32) = ap (λ (k : ℕ). k + a .i * 32) (c .before .before .page-at .ensures .0) ∙ index-add F t (a .i * 32) in
+    c .same-words .ensures
+    ∙ ap₂ (λ (w k : ℕ). every (λ j. eqb (getD (a .words .now) j 0) w) 32 k) (c .before .spread .ensures) at
+    ∙ piece-words (a .f .paw) (a .f .first .0) (length (a .words .now) / 512) (a .words .now) (requestOf (a .q)) (s .pre .3 .small) t (rw told at (s .pre .4)) (a .b) (a .i) (a .p) (s .pre .2) (s .pre .1) (s .pre .5)
+    (λ j u. omega (arith, c .before .before .before .before .before .before .shared-slice-known .given (indexOf F t (a .i * 32) + j)))
+    ∙ ap (λ (e : Entry). allAre F (a .words .now) (requestOf (a .q)) e (a .p) 512 (a .b * 8192 + a .i * 512)) (sym (ap entryOf told))
+
+returns-4 : tie.Need-returns-4
+unfolding found permOf
+returns-4 c =
+    let a = c .before .before .before .args in
+    let pre = c .before .before .before .pre in
+    eqb-swap (a .p) 0
+    ∙ run-outside (a .f .paw) (a .f .first .0) (length (a .words .now) / 512) (a .words .now) (requestOf (a .q)) (pre .3 .small) (entryOf (a .e)) (pre .4) (a .p) 0 511 (a .b * 8192 + a .i * 512)
+    (pre .5) (λ k lo hi. rw (c .enum-told .given .1))
+
+pub old-piece-is-spec : {M : Type 1} → statement M
+old-piece-is-spec =
+    tie.close
+    (tie.spec
+    enum-known-e
+    enum-known-e-2
+    piece-requires
+    enum-known-e-3
+    page-at-requires
+    mul-at
+    add-at
+    spread-requires
+    same-words-requires
+    enum-told
+    returns
+    returns-2
+    returns-3
+    returns-4)

@@ -1,0 +1,34 @@
+use mathlib.Core.Path.{_≡_, refl, sym, ap, _∙_, subst}
+use Prim.Native.Nat.{ℕ, _+_, _-_, _*_, _/_, _%_, _≤_, _<_}
+use native.Mathlib.Omega.{arith}
+use lib.ListN.{length}
+use borrow.Author.Needs.{needs}
+use Rattle.forms.proofs.EntryLaws.{first-field, after-small}
+use Rattle.forms.specs.Kinds.{requestOf}
+use Rattle.model.specs.Forms.{afterIn}
+use Rattle.table.specs.Views.{frameOf, entryOf}
+use Rattle.forms.proofs.pieces.piece_first.Statement.{statement}
+use Rattle.forms.proofs.pieces.piece_first.Tie as tie
+
+mul-after-word : tie.Need-mul-after-word
+mul-after-word c = search needs
+
+after-word-requires : tie.Need-after-word-requires
+after-word-requires c κs = search needs
+
+returns : tie.Need-returns
+returns c =
+    let a = c .before .before .args in
+    let pre = c .before .before .pre in
+    let z : a .b * 8192 + a .i * 32 * 16 ≡ a .b * 8192 + a .i * 512 = omega arith in
+    let e : c .after-word .result % 16 ≡ afterIn (frameOf (a .f) (a .words .now)) (a .words .now) (requestOf (a .q)) (entryOf (a .e)) (a .b * 8192 + a .i * 512)
+    = ap (λ (k : ℕ). k % 16) (c .after-word .ensures)
+    ∙ first-field (a .f .paw) (a .f .first .0) (length (a .words .now) / 512) (a .words .now) (requestOf (a .q)) (pre .2 .small) (entryOf (a .e)) (pre .3) (a .b) (a .i * 32)
+    ∙ ap (afterIn (frameOf (a .f) (a .words .now)) (a .words .now) (requestOf (a .q)) (entryOf (a .e))) z in (
+      e,
+      subst (λ (k : ℕ). k < 4) (sym e)
+          (after-small (a .f .paw) (a .f .first .0) (length (a .words .now) / 512) (a .words .now) (requestOf (a .q)) (pre .2 .small) (entryOf (a .e)) (pre .3) (a .b * 8192 + a .i * 512)),
+    )
+
+pub piece-first-spec : {M : Type 1} → statement M
+piece-first-spec = tie.close (tie.spec mul-after-word after-word-requires returns)

@@ -1,0 +1,101 @@
+use mathlib.Core.Path.{ap₂}
+use mathlib.Core.Path.{_≡_, refl, sym, ap, _∙_}
+use mathlib.Core.Bool.{Bool, true, false}
+use Prim.Native.Nat.{ℕ, _+_, _-_, _*_, _/_, _≤_, _<_}
+use native.Mathlib.Omega.{arith}
+use borrow.Author.Needs.{needs}
+use borrow.Author.Tests.{eq-eqb, ne-eqb}
+use lib.Dec.{eqb}
+use lib.ListN.{length}
+use Rattle.forms.proofs.EntryLaws.{word-is, words-next, words-stop, all-none}
+use Rattle.forms.specs.Kinds.{requestOf, spreadOf}
+use Rattle.model.specs.Forms.{allAre}
+use Rattle.table.specs.Views.{frameOf, entryOf}
+use Rattle.forms.proofs.pieces.words_are.Statement.{statement}
+use Rattle.forms.proofs.pieces.words_are.Tie as tie
+
+abbrev Inv-loop : tie.InvT-loop
+Inv-loop f words q e b i p want j₀ j =
+    (j ≤ 32) × (want ≡ spreadOf p)
+    × (allAre (frameOf f words) words (requestOf q) (entryOf e) p 512 (b * 8192 + i * 16) ≡ allAre (frameOf f words) words (requestOf q) (entryOf e) p (512 - j * 16) (b * 8192 + (i + j) * 16))
+
+abbrev μ-loop : tie.MeasureT-loop
+μ-loop f words q e b i p want j₀ j = 32 - j
+
+-- what the turn's entryOf says of its pages
+turn : (c : tie.After-after-word Inv-loop μ-loop) → let l = c .before .before in let a = l .before .before .before .args in
+    eqb (c .after-word .result) (l .before .spread .result)
+    ≡ allAre (frameOf (a .f) (a .words .now)) (a .words .now) (requestOf (a .q)) (entryOf (a .e)) (a .p) 16 (a .b * 8192 + (a .i + l .loop .j) * 16)
+turn c =
+    let l = c .before .before in
+    let a = l .before .before .before .args in
+    let pre = l .before .before .before .pre in
+    ap₂ (λ (x y : ℕ). eqb x y) (c .after-word .ensures) (l .before .spread .ensures)
+    ∙ word-is (a .f .paw) (a .f .first .0) (length (a .words .now) / 512) (a .words .now) (requestOf (a .q)) (pre .3 .small) (entryOf (a .e)) (pre .4) (a .b) (a .i + l .loop .j) (a .p) (pre .2)
+
+spread-requires : tie.Need-spread-requires Inv-loop μ-loop
+spread-requires c κs = search needs
+
+loop-holds : tie.Need-loop-holds Inv-loop μ-loop
+loop-holds c =
+    let a = c .before .before .args in
+    let z : a .b * 8192 + a .i * 16 ≡ a .b * 8192 + (a .i + 0) * 16 = omega arith in
+    (omega arith, c .spread .ensures, ap (allAre (frameOf (a .f) (a .words .now)) (a .words .now) (requestOf (a .q)) (entryOf (a .e)) (a .p) 512) z)
+
+add-after-word : tie.Need-add-after-word Inv-loop μ-loop
+add-after-word c = omega arith
+
+after-word-requires : tie.Need-after-word-requires Inv-loop μ-loop
+after-word-requires c κs = search needs
+
+returns : tie.Need-returns Inv-loop μ-loop
+returns c =
+    let l = c .before .before .before in
+    let a = l .before .before .before .args in
+    let pre = l .before .before .before .pre in
+    sym (l .loop .inv .2
+    ∙ words-stop (a .f .paw) (a .f .first .0) (length (a .words .now) / 512) (a .words .now) (requestOf (a .q)) (pre .3 .small) (entryOf (a .e)) (pre .4) (a .b) (a .i) (l .loop .j) (a .p) (omega arith)
+    (sym (turn (c .before)) ∙ ne-eqb _ _ (c .if1 .taken)))
+
+add-j : tie.Need-add-j Inv-loop μ-loop
+add-j c = omega arith
+
+loop-less : tie.Need-loop-less Inv-loop μ-loop
+loop-less c = omega arith
+
+loop-again : tie.Need-loop-again Inv-loop μ-loop
+loop-again c =
+    let l = c .before .before .before in
+    let a = l .before .before .before .args in
+    let pre = l .before .before .before .pre in (
+      omega arith,
+      l .before .spread .ensures,
+      l .loop .inv .2
+          ∙ words-next (a .f .paw) (a .f .first .0) (length (a .words .now) / 512) (a .words .now) (requestOf (a .q)) (pre .3 .small) (entryOf (a .e)) (pre .4) (a .b) (a .i) (l .loop .j) (a .p) (omega arith)
+          (sym (turn (c .before)) ∙ eq-eqb _ _ (c .if1 .left)),
+    )
+
+returns-2 : tie.Need-returns-2 Inv-loop μ-loop
+returns-2 c =
+    let l = c .before in
+    let a = l .before .before .before .args in
+    let pre = l .before .before .before .pre in
+    let z : 512 - l .loop .j * 16 ≡ 0 = omega arith in
+    sym (l .loop .inv .2
+    ∙ all-none (a .f .paw) (a .f .first .0) (length (a .words .now) / 512) (a .words .now) (requestOf (a .q)) (pre .3 .small) (entryOf (a .e)) (pre .4) (a .p) _ (a .b * 8192 + (a .i + l .loop .j) * 16) z)
+
+pub words-are-spec : {M : Type 1} → statement M
+words-are-spec =
+    tie.close
+    (tie.spec
+    Inv-loop
+    μ-loop
+    spread-requires
+    loop-holds
+    add-after-word
+    after-word-requires
+    returns
+    add-j
+    loop-less
+    loop-again
+    returns-2)

@@ -1,0 +1,89 @@
+use mathlib.Core.Path.{_≡_, sym, ap, _∙_, subst}
+use Prim.Native.Nat.{ℕ, _+_, _*_, _/_, _<_, _^_}
+use lib.ListN.{length}
+use borrow.Author.Needs.{needs}
+use Rattle.forms.proofs.EntryLaws.{word-inside, word-outside, word-across}
+use Rattle.forms.specs.Kinds.{requestOf, mixedAt}
+use Rattle.model.specs.Numbers.{pack}
+use Rattle.table.specs.Views.{entryOf}
+use Rattle.forms.proofs.words.after_word.Statement.{statement}
+use Rattle.forms.proofs.words.after_word.Tie as tie
+
+mul-s : tie.Need-mul-s
+mul-s c = search needs
+
+mul-s-2 : tie.Need-mul-s-2
+mul-s-2 c = search needs
+
+add-s : tie.Need-add-s
+add-s c = search needs
+
+lies-requires : tie.Need-lies-requires
+lies-requires c κs = search needs
+
+enum-told : tie.Need-enum-told
+enum-told c = search needs
+
+spread-requires : tie.Need-spread-requires
+spread-requires c κs = search needs
+
+enum-told-2 : tie.Need-enum-told-2
+enum-told-2 c = search needs
+
+old-word-requires : tie.Need-old-word-requires
+old-word-requires c κs = search needs
+
+enum-told-3 : tie.Need-enum-told-3
+enum-told-3 c = search needs
+
+old-word-requires-2 : tie.Need-old-word-requires-2
+old-word-requires-2 c κs = search needs
+
+mixed-word-requires : tie.Need-mixed-word-requires
+mixed-word-requires c κs = search needs
+
+returns : tie.Need-returns
+returns c =
+    let a = c .before .before .before .before .before .args in
+    let pre = c .before .before .before .before .before .pre in
+    c .spread .ensures
+    ∙ word-inside (a .f .paw) (a .f .first .0) (length (a .words .now) / 512) (a .words .now) (requestOf (a .q)) (pre .2 .small) (entryOf (a .e)) (pre .3) (a .b) (a .i)
+    (rw (c .before .enum-told .given .1) at (c .before .before .before .lies .ensures))
+
+returns-2 : tie.Need-returns-2
+returns-2 c =
+    let a = c .before .before .before .before .before .args in
+    let pre = c .before .before .before .before .before .pre in
+    c .old-word .ensures
+    ∙ word-outside (a .f .paw) (a .f .first .0) (length (a .words .now) / 512) (a .words .now) (requestOf (a .q)) (pre .2 .small) (entryOf (a .e)) (pre .3) (a .b) (a .i) (pre .1)
+    (subst (λ (k : ℕ). k < 2 ^ 64) (c .old-word .ensures) (c .old-word .ok))
+    (rw (c .before .enum-told2 .given .1) at (c .before .before .before .lies .ensures))
+
+returns-3 : tie.Need-returns-3
+returns-3 c =
+    let a = c .before .before .before .before .before .before .args in
+    let pre = c .before .before .before .before .before .before .pre in
+    let s : ℕ = a .b * 8192 + a .i * 16 in
+    c .mixed-word .ensures
+    ∙ ap (λ (w : ℕ). pack 16 (mixedAt (requestOf (a .q)) w s) 16 s) (c .before .old-word2 .ensures)
+    ∙ word-across (a .f .paw) (a .f .first .0) (length (a .words .now) / 512) (a .words .now) (requestOf (a .q)) (pre .2 .small) (entryOf (a .e)) (pre .3) (a .b) (a .i) (pre .1)
+    (subst (λ (k : ℕ). k < 2 ^ 64) (c .before .old-word2 .ensures) (c .before .old-word2 .ok))
+
+pub after-word-spec : {M : Type 1} → statement M
+after-word-spec =
+    tie.close
+    (tie.spec
+    mul-s
+    mul-s-2
+    add-s
+    lies-requires
+    enum-told
+    spread-requires
+    enum-told-2
+    old-word-requires
+    enum-told-3
+    old-word-requires-2
+    mixed-word-requires
+    returns
+    returns-2
+    returns-3)

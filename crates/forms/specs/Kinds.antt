@@ -1,0 +1,73 @@
+-- The code's types as the model's, and what the contracts ask of them.
+use mathlib.Core.Path.{_≡_}
+use mathlib.Core.Bool.{Bool, true, false}
+use mathlib.Core.List.{List}
+use Prim.Native.Nat.{ℕ, _+_, _-_, _*_, _/_, _≤_, _<_, _^_}
+use Rattle.model.specs.Numbers.{if_then_else_, digit}
+use Rattle.model.specs.Layout.{gibBlocks}
+use Rattle.model.specs.Entry as entry
+use Rattle.model.specs.Frame as frame
+use Rattle.model.specs.Walk as walk
+use Rattle.model.specs.Forms as model
+use Rattle.model.specs.Stores as stores
+use Rattle.model.specs.Calls as calls
+use Rattle.theory.specs.Rooted.{Rooted}
+use Rattle.forms.specs.declared.Request.{Request}
+use Rattle.forms.specs.declared.Form.{Form}
+use Rattle.forms.specs.declared.Form.the-variants.{Flat, Pieces, Table}
+use Rattle.forms.specs.declared.Gib.{Gib}
+use Rattle.forms.specs.declared.Place.{Place}
+use Rattle.forms.specs.declared.Place.the-variants.{Inside, Outside, Across}
+
+abbrev pub requestOf : Request → model.Request
+requestOf q = record { slot = q .slot; start = q .start .0; size = q .size; permission = q .permission }
+
+abbrev pub formOf : Form → model.Form
+formOf (Flat p) = model.wantFlat p
+formOf (Pieces i) = model.wantPieces i
+formOf Table = model.wantTable
+
+-- a permission is one of four, and the range ends within the widest address space
+pub record Fair (q : Request) : Type 0 where
+  pub small : q .permission < 4
+  pub ends : q .start .0 + q .size ≤ 2 ^ 34
+
+-- where the n pages from s lie, seen from the range
+abbrev pub Lies : model.Request → ℕ → ℕ → Place → Type 0
+Lies q s n Inside = (k : ℕ) → s ≤ k → k < s + n → model.inRange q k ≡ true
+Lies q s n Outside = (k : ℕ) → s ≤ k → k < s + n → model.inRange q k ≡ false
+Lies q s n Across = Unit {0}
+
+-- an L1 entry whose fields are all p
+abbrev pub spreadOf : ℕ → ℕ
+spreadOf p = p * 0x1111_1111_1111_1111
+
+-- L1 entry i of a block, as it stands or as its L2 entry gives it
+abbrev pub oldWord : frame.Frame → List ℕ → entry.Entry → ℕ → ℕ
+oldWord F m (entry.flat p) i = spreadOf p
+oldWord F m (entry.pieces info) i = spreadOf (digit 4 info (i / 32))
+oldWord F m (entry.table t) i = frame.wordAt F m t i
+oldWord F m entry.invalid i = 0
+
+-- the permission of page k, once the edit is whole, by an L1 entry as it stands, whose first page is s
+abbrev pub mixedAt : model.Request → ℕ → ℕ → ℕ → ℕ
+mixedAt q old s k = if model.inRange q k then q .permission else digit 16 old (k - s)
+
+-- what gib says is so of GiB g
+abbrev pub GibIs : frame.Frame → List ℕ → model.Request → ℕ → ℕ → Gib → Type 0
+GibIs F m q root g gib = (gib .p ≡ model.gibFirst F m q root g) × (gib .one ≡ model.gibIsOne F m q root g (gib .p)) × (gib .p < 4)
+
+-- the finished form of block b, by what gib says
+abbrev pub formAt : frame.Frame → List ℕ → model.Request → ℕ → Gib → ℕ → model.Form
+formAt F m q root gib b = model.formIn F m q (gib .one) (gib .p) (walk.entryAt F m root b) b
+
+-- the frame and the range are within their bounds, and the root is one of a sound table
+pub record Ranged (F : frame.Frame) (m : List ℕ) (q : model.Request) (root : ℕ) : Type 0 where
+  pub small : q .permission < 4
+  pub okFrame : frame.frameOk F m ≡ true
+  pub range : calls.badRange F q ≡ false
+  pub rooted : Rooted F m root
+
+-- how many new pages the whole edit takes
+abbrev pub wholePages : frame.Frame → List ℕ → model.Request → ℕ → ℕ
+wholePages F m q root = stores.newPages F m root (model.firstGib q * gibBlocks) (model.forms F m q root)

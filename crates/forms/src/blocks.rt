@@ -1,0 +1,97 @@
+// The finished form of one block.
+use crate::Form;
+use crate::Place;
+use crate::Request;
+use crate::pieces::piece_first;
+use crate::pieces::piece_is;
+use crate::range::lies;
+use crate::words::page_at;
+use table::Entry;
+use table::Frame;
+use table::PageNumber;
+use table::word::decode;
+ghost use mathlib.Core.Path.{_≡_};
+ghost use mathlib.Core.Bool.{true, false};
+ghost use Prim.Native.Nat.{_*_, _<_};
+ghost use Rattle.forms.specs.Kinds.{requestOf, formOf, Fair, Lies};
+ghost use Rattle.model.specs.Forms.{formIn};
+ghost use Rattle.model.specs.Frame.{lent};
+ghost use Rattle.model.specs.Stores.{needsPage};
+ghost use Rattle.model.specs.Walk.{entryAt};
+ghost use Rattle.table.specs.Views.{frameOf, entryOf};
+ghost use Rattle.theory.specs.Rooted.{Good};
+
+// The finished form of block b in a GiB that is not of one permission.
+pub fn pieces_form(f: Frame, words: &[u64], q: Request, e: Entry, b: u64) -> Form
+    requires { ⌜ (b < 512) × Fair q × Good (frameOf f (now words)) (now words) (entryOf e) ⌝ }
+    ensures { λ r. ⌜ formOf r ≡ formIn (frameOf f (now (words .entry))) (now (words .entry)) (requestOf q) false 0 (entryOf e) b ⌝ }
+{
+    let mut info: u64 = 0;
+    for j in 0..16u64 {
+        let p = piece_first(f, words, q, e, b, 15 - j);
+        if !piece_is(f, words, q, e, b, 15 - j, p) {
+            return Form::Table;
+        }
+        info = p + 4 * info;
+    }
+    Form::Pieces(info)
+}
+
+// The same for a block outside the range.
+pub fn outside_form(f: Frame, words: &[u64], q: Request, e: Entry, b: u64) -> Form
+    requires { ⌜ (b < 512) × Fair q × Good (frameOf f (now words)) (now words) (entryOf e) × Lies (requestOf q) (b * 8192) 8192 Place.Outside ⌝ }
+    ensures { λ r. ⌜ formOf r ≡ formIn (frameOf f (now (words .entry))) (now (words .entry)) (requestOf q) false 0 (entryOf e) b ⌝ }
+{
+    match e {
+        Entry::Flat(p) => Form::Pieces(p * 0x5555_5555),
+        Entry::Pieces(info) => {
+            if info < 0x1_0000_0000 {
+                Form::Pieces(info)
+            } else {
+                pieces_form(f, words, q, e, b)
+            }
+        }
+        Entry::Table(_) => pieces_form(f, words, q, e, b),
+        Entry::Invalid => pieces_form(f, words, q, e, b),
+    }
+}
+
+// The finished form of block b in a GiB that is or is not of one permission, p.
+pub fn block_form(f: Frame, words: &[u64], q: Request, one: bool, p: u64, e: Entry, b: u64) -> Form
+    requires { ⌜ (b < 512) × Fair q × Good (frameOf f (now words)) (now words) (entryOf e) ⌝ }
+    ensures { λ r. ⌜ formOf r ≡ formIn (frameOf f (now (words .entry))) (now (words .entry)) (requestOf q) one p (entryOf e) b ⌝ }
+{
+    if one {
+        return Form::Flat(p);
+    }
+    match lies(q, b * 8192, 8192) {
+        Place::Inside => Form::Pieces(q.permission * 0x5555_5555),
+        Place::Outside => outside_form(f, words, q, e, b),
+        Place::Across => pieces_form(f, words, q, e, b),
+    }
+}
+
+// L2 entry b of a root.
+pub fn entry_at(f: Frame, words: &[u64], root: PageNumber, b: u64) -> Entry
+    requires { ⌜ (b < 512) × (lent (frameOf f (now words)) (root .0) ≡ true) ⌝ }
+    ensures { λ r. ⌜ entryOf r ≡ entryAt (frameOf f (now (words .entry))) (now (words .entry)) (root .0) b ⌝ }
+{
+    let at = page_at(f, words, root) + b as usize;
+    decode(words[at])
+}
+
+// A block that is to have an L1 page and has none.
+pub fn needs_page(form: Form, e: Entry) -> bool
+    ensures { λ r. ⌜ r ≡ needsPage (formOf form) (entryOf e) ⌝ }
+{
+    match form {
+        Form::Flat(_) => false,
+        Form::Pieces(_) => false,
+        Form::Table => match e {
+            Entry::Flat(_) => true,
+            Entry::Pieces(_) => true,
+            Entry::Table(_) => false,
+            Entry::Invalid => true,
+        },
+    }
+}

@@ -1,0 +1,106 @@
+// The GiBs that a range touches, and the new pages that the whole edit takes.
+use crate::Gib;
+use crate::Place;
+use crate::Request;
+use crate::blocks::block_form;
+use crate::blocks::entry_at;
+use crate::blocks::needs_page;
+use crate::pieces::block_is;
+use crate::pieces::piece_first;
+use crate::range::lies;
+use table::Frame;
+use table::PageNumber;
+ghost use mathlib.Core.Path.{_≡_};
+ghost use Prim.Native.Nat.{_+_, _*_, _/_, _%_, _≤_, _<_};
+ghost use Rattle.forms.specs.Kinds.{requestOf, Fair, GibIs, formAt, Ranged, wholePages};
+ghost use Rattle.model.specs.Forms.{gibFirst, gibIsOne};
+ghost use Rattle.model.specs.Frame.{blocks};
+ghost use Rattle.model.specs.Numbers.{if_then_else_};
+ghost use Rattle.model.specs.Stores.{needsPage};
+ghost use Rattle.model.specs.Walk.{entryAt};
+ghost use Rattle.table.specs.Views.{frameOf};
+ghost use Rattle.theory.specs.Rooted.{Rooted};
+
+// All blocks of GiB g are of permission p.
+pub fn blocks_are(f: Frame, words: &[u64], q: Request, root: PageNumber, g: u64, p: u64) -> bool
+    requires { ⌜ Rooted (frameOf f (now words)) (now words) (root .0) × (g * 32 + 32 ≤ blocks (frameOf f (now words))) × (p < 4) × Fair q ⌝ }
+    ensures { λ r. ⌜ r ≡ gibIsOne (frameOf f (now (words .entry))) (now (words .entry)) (requestOf q) (root .0) g p ⌝ }
+{
+    for i in 0..32u64 {
+        let b = g * 32 + i;
+        if !block_is(f, words, q, entry_at(f, words, root, b), b, p) {
+            return false;
+        }
+    }
+    true
+}
+
+// A GiB wholly in the range is of one permission without a read.
+pub fn gib_of(f: Frame, words: &[u64], q: Request, root: PageNumber, g: u64) -> Gib
+    requires { ⌜ Rooted (frameOf f (now words)) (now words) (root .0) × (g * 32 + 32 ≤ blocks (frameOf f (now words))) × Fair q ⌝ }
+    ensures { λ r. ⌜ (r .p ≡ gibFirst (frameOf f (now (words .entry))) (now (words .entry)) (requestOf q) (root .0) g)
+        × (r .one ≡ gibIsOne (frameOf f (now (words .entry))) (now (words .entry)) (requestOf q) (root .0) g (r .p)) × (r .p < 4) ⌝ }
+{
+    match lies(q, g * 262144, 262144) {
+        Place::Inside => Gib {
+            one: true,
+            p: q.permission,
+        },
+        Place::Outside => read_gib(f, words, q, root, g),
+        Place::Across => read_gib(f, words, q, root, g),
+    }
+}
+
+pub fn read_gib(f: Frame, words: &[u64], q: Request, root: PageNumber, g: u64) -> Gib
+    requires { ⌜ Rooted (frameOf f (now words)) (now words) (root .0) × (g * 32 + 32 ≤ blocks (frameOf f (now words))) × Fair q ⌝ }
+    ensures { λ r. ⌜ (r .p ≡ gibFirst (frameOf f (now (words .entry))) (now (words .entry)) (requestOf q) (root .0) g)
+        × (r .one ≡ gibIsOne (frameOf f (now (words .entry))) (now (words .entry)) (requestOf q) (root .0) g (r .p)) × (r .p < 4) ⌝ }
+{
+    let b = g * 32;
+    let p = piece_first(f, words, q, entry_at(f, words, root, b), b, 0);
+    let one = blocks_are(f, words, q, root, g, p);
+    Gib { one: one, p: p }
+}
+
+// The first block of a GiB decides for its GiB, before the GiB's first store.
+pub fn gib_at(f: Frame, words: &[u64], q: Request, root: PageNumber, b: u64, gib: Gib) -> Gib
+    requires { ⌜ Rooted (frameOf f (now words)) (now words) (root .0) × (b / 32 * 32 + 32 ≤ blocks (frameOf f (now words))) × Fair q
+        × ((b % 32 ≡ 0 → ⊥) → GibIs (frameOf f (now words)) (now words) (requestOf q) (root .0) (b / 32) gib) ⌝ }
+    ensures { λ r. ⌜ GibIs (frameOf f (now (words .entry))) (now (words .entry)) (requestOf q) (root .0) (b / 32) r ⌝ }
+{
+    if b % 32 == 0 {
+        return gib_of(f, words, q, root, b / 32);
+    }
+    gib
+}
+
+// 1 for a block that takes a new page, 0 for any other.
+pub fn new_page(f: Frame, words: &[u64], q: Request, root: PageNumber, gib: Gib, b: u64) -> u64
+    requires { ⌜ Rooted (frameOf f (now words)) (now words) (root .0) × (b < blocks (frameOf f (now words))) × Fair q ⌝ }
+    ensures { λ r. ⌜ r ≡ (if needsPage (formAt (frameOf f (now (words .entry))) (now (words .entry)) (requestOf q) (root .0) gib b)
+        (entryAt (frameOf f (now (words .entry))) (now (words .entry)) (root .0) b) then 1 else 0) ⌝ }
+{
+    let e = entry_at(f, words, root, b);
+    let form = block_form(f, words, q, gib.one, gib.p, e, b);
+    if needs_page(form, e) {
+        return 1;
+    }
+    0
+}
+
+// How many new pages the whole edit takes.
+pub fn new_pages(f: Frame, words: &[u64], q: Request, root: PageNumber) -> u64
+    requires { ⌜ Ranged (frameOf f (now words)) (now words) (requestOf q) (root .0) ⌝ }
+    ensures { λ r. ⌜ r ≡ wholePages (frameOf f (now (words .entry))) (now (words .entry)) (requestOf q) (root .0) ⌝ }
+{
+    let end = ((q.start.0 + q.size - 1) / 0x4000_0000 + 1) * 32;
+    let mut b = q.start.0 / 0x4000_0000 * 32;
+    let mut gib = Gib { one: false, p: 0 };
+    let mut count: u64 = 0;
+    while b < end {
+        gib = gib_at(f, words, q, root, b, gib);
+        count += new_page(f, words, q, root, gib, b);
+        b += 1;
+    }
+    count
+}

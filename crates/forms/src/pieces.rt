@@ -1,0 +1,95 @@
+// Pieces of a block, and whole blocks: are they of one permission once the edit is whole?
+use crate::Place;
+use crate::Request;
+use crate::range::lies;
+use crate::words::after_word;
+use crate::words::page_at;
+use crate::words::spread;
+use table::Entry;
+use table::Frame;
+use table::word::piece;
+ghost use mathlib.Core.Path.{_≡_};
+ghost use Prim.Native.Nat.{_+_, _*_, _≤_, _<_};
+ghost use lib.Dec.{eqb};
+ghost use lib.ListN.{length, getD};
+ghost use Rattle.forms.specs.Kinds.{requestOf, Fair, Lies};
+ghost use Rattle.model.specs.Forms.{allAre, afterIn};
+ghost use Rattle.model.specs.Numbers.{every};
+ghost use Rattle.table.specs.Views.{frameOf, entryOf};
+ghost use Rattle.theory.specs.Rooted.{Good};
+
+// The 32 L1 entries from entry i of block b are all of permission p, once the edit is whole.
+pub fn words_are(f: Frame, words: &[u64], q: Request, e: Entry, b: u64, i: u64, p: u64) -> bool
+    requires { ⌜ (b < 512) × (i + 32 ≤ 512) × (p < 4) × Fair q × Good (frameOf f (now words)) (now words) (entryOf e) ⌝ }
+    ensures { λ r. ⌜ r ≡ allAre (frameOf f (now (words .entry))) (now (words .entry)) (requestOf q) (entryOf e) p 512 (b * 8192 + i * 16) ⌝ }
+{
+    let want = spread(p);
+    for j in 0..32u64 {
+        if after_word(f, words, q, e, b, i + j) != want {
+            return false;
+        }
+    }
+    true
+}
+
+// The 32 words from at are all want.
+pub fn same_words(words: &[u64], at: usize, want: u64) -> bool
+    requires { ⌜ at + 32 ≤ length (now words) ⌝ }
+    ensures { λ r. ⌜ r ≡ every (λ k. eqb (getD (now (words .entry)) k 0) want) 32 at ⌝ }
+{
+    for i in 0..32usize {
+        if words[at + i] != want {
+            return false;
+        }
+    }
+    true
+}
+
+// Piece i of block b, outside the range.
+pub fn old_piece_is(f: Frame, words: &[u64], q: Request, e: Entry, b: u64, i: u64, p: u64) -> bool
+    requires { ⌜ (b < 512) × (i < 16) × (p < 4) × Fair q × Good (frameOf f (now words)) (now words) (entryOf e) × Lies (requestOf q) (b * 8192 + i * 512) 512 Place.Outside ⌝ }
+    ensures { λ r. ⌜ r ≡ allAre (frameOf f (now (words .entry))) (now (words .entry)) (requestOf q) (entryOf e) p 512 (b * 8192 + i * 512) ⌝ }
+{
+    match e {
+        Entry::Flat(o) => o == p,
+        Entry::Pieces(info) => piece(info, i) == p,
+        Entry::Table(t) => {
+            let at = page_at(f, words, t) + (i * 32) as usize;
+            same_words(words, at, spread(p))
+        }
+        Entry::Invalid => p == 0,
+    }
+}
+
+// Piece i of block b is all of permission p, once the edit is whole.
+pub fn piece_is(f: Frame, words: &[u64], q: Request, e: Entry, b: u64, i: u64, p: u64) -> bool
+    requires { ⌜ (b < 512) × (i < 16) × (p < 4) × Fair q × Good (frameOf f (now words)) (now words) (entryOf e) ⌝ }
+    ensures { λ r. ⌜ r ≡ allAre (frameOf f (now (words .entry))) (now (words .entry)) (requestOf q) (entryOf e) p 512 (b * 8192 + i * 512) ⌝ }
+{
+    match lies(q, b * 8192 + i * 512, 512) {
+        Place::Inside => q.permission == p,
+        Place::Outside => old_piece_is(f, words, q, e, b, i, p),
+        Place::Across => words_are(f, words, q, e, b, i * 32, p),
+    }
+}
+
+// Block b is all of permission p, once the edit is whole.
+pub fn block_is(f: Frame, words: &[u64], q: Request, e: Entry, b: u64, p: u64) -> bool
+    requires { ⌜ (b < 512) × (p < 4) × Fair q × Good (frameOf f (now words)) (now words) (entryOf e) ⌝ }
+    ensures { λ r. ⌜ r ≡ allAre (frameOf f (now (words .entry))) (now (words .entry)) (requestOf q) (entryOf e) p 8192 (b * 8192) ⌝ }
+{
+    for i in 0..16u64 {
+        if !piece_is(f, words, q, e, b, i, p) {
+            return false;
+        }
+    }
+    true
+}
+
+// The permission of the first page of piece i of block b, once the edit is whole.
+pub fn piece_first(f: Frame, words: &[u64], q: Request, e: Entry, b: u64, i: u64) -> u64
+    requires { ⌜ (b < 512) × (i < 16) × Fair q × Good (frameOf f (now words)) (now words) (entryOf e) ⌝ }
+    ensures { λ r. ⌜ (r ≡ afterIn (frameOf f (now (words .entry))) (now (words .entry)) (requestOf q) (entryOf e) (b * 8192 + i * 512)) × (r < 4) ⌝ }
+{
+    after_word(f, words, q, e, b, i * 32) % 16
+}

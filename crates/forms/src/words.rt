@@ -1,0 +1,88 @@
+// L1 entries, as they stand and once the edit is whole.
+use crate::Place;
+use crate::Request;
+use crate::range::in_range;
+use crate::range::lies;
+use table::Entry;
+use table::Frame;
+use table::PageNumber;
+use table::lent;
+use table::word::field;
+use table::word::piece;
+ghost use mathlib.Core.Path.{_≡_};
+ghost use mathlib.Core.Bool.{true};
+ghost use Prim.Native.Nat.{_+_, _≤_, _<_, _^_};
+ghost use lib.ListN.{length};
+ghost use Rattle.forms.specs.Kinds.{requestOf, Fair, spreadOf, oldWord, mixedAt};
+ghost use Rattle.model.specs.Forms.{l1Word};
+ghost use Rattle.model.specs.Frame.{lent, indexOf};
+ghost use Rattle.model.specs.Numbers.{pack};
+ghost use Rattle.table.specs.Views.{frameOf, entryOf};
+ghost use Rattle.theory.specs.Rooted.{Good};
+
+// An L1 entry whose fields are all p.
+pub fn spread(p: u64) -> u64
+    requires { ⌜ p < 4 ⌝ }
+    ensures { λ r. ⌜ r ≡ spreadOf p ⌝ }
+{
+    p * 0x1111_1111_1111_1111
+}
+
+// Where a lent page starts.
+pub fn page_at(f: Frame, words: &[u64], page: PageNumber) -> usize
+    requires { ⌜ lent (frameOf f (now words)) (page .0) ≡ true ⌝ }
+    ensures { λ r. ⌜ (r ≡ indexOf (frameOf f (now (words .entry))) (page .0) 0) × (r + 512 ≤ length (now (words .entry))) ⌝ }
+{
+    lent::page_start(f, words.len(), page)
+}
+
+pub fn old_word(f: Frame, words: &[u64], e: Entry, i: u64) -> u64
+    requires { ⌜ (i < 512) × Good (frameOf f (now words)) (now words) (entryOf e) ⌝ }
+    ensures { λ r. ⌜ r ≡ oldWord (frameOf f (now (words .entry))) (now (words .entry)) (entryOf e) i ⌝ }
+{
+    match e {
+        Entry::Flat(p) => spread(p),
+        Entry::Pieces(info) => spread(piece(info, i / 32)),
+        Entry::Table(t) => {
+            let at = page_at(f, words, t) + i as usize;
+            words[at]
+        }
+        Entry::Invalid => 0,
+    }
+}
+
+// Field k of an L1 entry, once the edit is whole; the entry's first page is s.
+pub fn mixed_field(q: Request, s: u64, old: u64, k: u64) -> u64
+    requires { ⌜ (k < 16) × (s + 16 ≤ 2 ^ 22) × Fair q ⌝ }
+    ensures { λ r. ⌜ (r ≡ mixedAt (requestOf q) old s (s + k)) × (r < 16) ⌝ }
+{
+    if in_range(q, s + k) {
+        return q.permission;
+    }
+    field(old, k)
+}
+
+// The L1 entry of the 16 pages from s that stands across an end of the range.
+pub fn mixed_word(q: Request, s: u64, old: u64) -> u64
+    requires { ⌜ (s + 16 ≤ 2 ^ 22) × Fair q ⌝ }
+    ensures { λ r. ⌜ r ≡ pack 16 (mixedAt (requestOf q) old s) 16 s ⌝ }
+{
+    let mut word: u64 = 0;
+    for j in 0..16u64 {
+        word = mixed_field(q, s, old, 15 - j) + 16 * word;
+    }
+    word
+}
+
+// L1 entry i of block b, once the edit is whole.
+pub fn after_word(f: Frame, words: &[u64], q: Request, e: Entry, b: u64, i: u64) -> u64
+    requires { ⌜ (b < 512) × (i < 512) × Fair q × Good (frameOf f (now words)) (now words) (entryOf e) ⌝ }
+    ensures { λ r. ⌜ r ≡ l1Word (frameOf f (now (words .entry))) (now (words .entry)) (requestOf q) (entryOf e) b i ⌝ }
+{
+    let s = b * 8192 + i * 16;
+    match lies(q, s, 16) {
+        Place::Inside => spread(q.permission),
+        Place::Outside => old_word(f, words, e, i),
+        Place::Across => mixed_word(q, s, old_word(f, words, e, i)),
+    }
+}
