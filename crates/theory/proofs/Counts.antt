@@ -15,7 +15,7 @@ use Rattle.model.specs.Layout.{piecePages}
 use Rattle.model.specs.Entry.{Entry, encode, fieldOf, flat, invalid, perm, pieces, table}
 use Rattle.model.specs.Frame.{Frame, blocks, indexOf, wordAt}
 use Rattle.model.specs.Walk.{entryAt, found, l2Word, pn0, pn1, pn2}
-use Rattle.model.specs.Forms.{Form, Request, afterIn, allAre, firstGib, formIn, forms, gibFirst, gibIsOne, gibs, inRange, l1Word, permOf, pieceStart, piecesAreOne, piecesInfo, wantFlat, wantPieces, wantTable}
+use Rattle.model.specs.Forms.{Form, Request, afterIn, allAre, firstGib, formIn, forms, gibFirst, gibIsOne, inRange, l1Word, permOf, pieceStart, piecesAreOne, piecesInfo, wantFlat, wantPieces, wantTable}
 use Rattle.model.specs.Stores.{Store, blockStores, ifChanged, ifChangedL2, linkTable, needsPage, newTable, sameTable, storeAt, storeL2, storesFrom}
 use Rattle.laws.proofs.Choices.{split}
 use Rattle.laws.proofs.Digits.{pack-cong, pack-digit}
@@ -64,7 +64,7 @@ module _ (F : Frame) (ok : Ok F) (q : Request) (m : List ℕ) (ro : ℕ) where
         ones N,
       )
 
-  link-length : (e : Entry) (b p : ℕ) → length (linkTable F m q ro e b p) ≡ 1 + N
+  pub link-length : (e : Entry) (b p : ℕ) → length (linkTable F m q ro e b p) ≡ 1 + N
   unfolding linkTable
   link-length e b p = omega (arith, length-append (newTable F m q e b p) (storeL2 F ro b (encode (F .layout) (table p)) ∷ []), new-length e b p)
 
@@ -237,7 +237,7 @@ swap-one k y =
     subst (λ (x : ℕ). times k (x ∷ []) ≡ times x (k ∷ [])) same refl)
     (λ z. let ne : k ≢ y = eqb-false k y z in times-other k y ne ∙ sym (times-other y k (λ e. ne (sym e))))
 
-two-ends : (x y n s : ℕ) → sum (λ c. times c (x ∷ y ∷ [])) n s ≤ 2
+pub two-ends : (x y n s : ℕ) → sum (λ c. times c (x ∷ y ∷ [])) n s ≤ 2
 two-ends x y n s =
     omega (
       arith,
@@ -252,16 +252,24 @@ many-blocks : (F : Frame) → Ok F → 32 ≤ blocks F
 unfolding blocks
 many-blocks F ok = pow-mono {i = 5} (omega (arith, ok .pawLow))
 
-pub count : (F : Frame) (ok : Ok F) (q : Request) → q .permission < 4 → GoodRange F q
-    → (m : List ℕ) (ro : ℕ) (rs : List ℕ) → Sound F rs m → 0 < times ro rs → ((i : ℕ) → getD m i 0 < 16 ^ F .layout .fields)
-    → (fr : List ℕ) → length (storesFrom F m q ro (firstGib q * 32) (forms F m q ro) fr) ≤ blocks F - 2 + 2 * suc (F .layout .words)
-count F ok q low w m ro rs s root bound fr =
-    let ends : List ℕ = lowEnd F q w ∷ highEnd F q w ∷ [] in
-    let len : length (forms F m q ro) ≡ gibs q * 32 = forms-length F ok q low ro m in
-    let few : AllAt (Few F q m ro ends) (firstGib q * 32) (forms F m q ro)
-    = forms-all F ok q low ro m (Few F q m ro ends)
-    (λ g c lo hi l u p. tight F ok q m ro rs s root bound c (omega (arith, touched-inside F q w ok)) w (gibIsOne F m q ro g (gibFirst F m q ro g)) (gibFirst F m q ro g) p) in
-    let all = stores-length F q m ro ends (forms F m q ro) (firstGib q * 32) fr few in
-    let two = two-ends (lowEnd F q w) (highEnd F q w) (length (forms F m q ro)) (firstGib q * 32) in
-    let big : 32 ≤ blocks F = many-blocks F ok in
-    omega (arith, all, mul-le-mul-left (F .layout .words) two, len, touched-inside F q w ok, big)
+module _ (F : Frame) (ok : Ok F) (q : Request) (low : q .permission < 4) (w : GoodRange F q) (m : List ℕ) (ro : ℕ) (rs : List ℕ) (s : Sound F rs m)
+    (root : 0 < times ro rs) (bound : (i : ℕ) → getD m i 0 < 16 ^ F .layout .fields) where
+  abbrev pub endsOf : List ℕ
+  endsOf = lowEnd F q w ∷ highEnd F q w ∷ []
+
+  pub forms-few : AllAt (Few F q m ro endsOf) (firstGib q * 32) (forms F m q ro)
+  forms-few =
+      forms-all F ok q low ro m (Few F q m ro endsOf)
+      (λ g c lo hi l u p. tight F ok q m ro rs s root bound c (omega (arith, touched-inside F q w ok)) w (gibIsOne F m q ro g (gibFirst F m q ro g)) (gibFirst F m q ro g) p)
+
+  -- "With B blocks in the address space the count is at most B - 2 + 1,026"
+  pub count : (fr : List ℕ) → length (storesFrom F m q ro (firstGib q * 32) (forms F m q ro) fr) ≤ blocks F - 2 + 2 * suc (F .layout .words)
+  count fr =
+      omega (
+        arith,
+        stores-length F q m ro endsOf (forms F m q ro) (firstGib q * 32) fr forms-few,
+        mul-le-mul-left (F .layout .words) (two-ends (lowEnd F q w) (highEnd F q w) (length (forms F m q ro)) (firstGib q * 32)),
+        forms-length F ok q low ro m,
+        touched-inside F q w ok,
+        many-blocks F ok,
+      )

@@ -31,6 +31,7 @@
 --   Finished     what a whole call leaves
 --   Ends         the two ends of a range
 --   Counts       how many stores
+--   NewPages     at most two new pages, and that the stores depend on those alone
 --   Demands      demands 2 and 3
 -- For the code
 --   SoundRoots   what a sound table says of an entry and of a root
@@ -66,6 +67,7 @@ pub mod CutsFree
 pub mod Finished
 pub mod Ends
 pub mod Counts
+pub mod NewPages
 pub mod Demands
 pub mod SoundRoots
 pub mod Slots

@@ -1,0 +1,55 @@
+-- What the contracts ask of a block, a new page and an accepted edit.
+use mathlib.Core.Path.{_≡_}
+use mathlib.Core.Bool.{Bool, true, false}
+use mathlib.Core.List.{List, [], _∷_, headD, tail}
+use Prim.Native.Nat.{ℕ, _*_, _<_, _^_}
+use lib.ListN.{length, take}
+use Rattle.model.specs.Layout.{gibBlocks}
+use Rattle.model.specs.Entry as entry
+use Rattle.model.specs.Frame as frame
+use Rattle.model.specs.Walk as walk
+use Rattle.model.specs.Sound as tables
+use Rattle.model.specs.Forms as model
+use Rattle.model.specs.Stores as stores
+use Rattle.model.specs.Calls as calls
+use Rattle.forms.specs.declared.Gib.{Gib}
+use Rattle.forms.specs.Kinds.{formAt}
+use Rattle.sound.specs.declared.Free.{Free}
+
+-- the free pages that an edit may take, lowest first: two at the most
+abbrev pub freeList : Free → List ℕ
+freeList free = take (free .count) (free .first .0 ∷ free .second .0 ∷ [])
+
+-- an entry that names no page
+abbrev pub Plain : entry.Entry → Type 0
+Plain (entry.flat p) = Unit {0}
+Plain (entry.pieces i) = Unit {0}
+Plain (entry.table t) = ⊥
+Plain entry.invalid = Unit {0}
+
+-- a form whose entry fits a word
+abbrev pub Encodes : model.Form → Type 0
+Encodes (model.wantFlat p) = p < 4
+Encodes (model.wantPieces i) = i < 2 ^ 32
+Encodes model.wantTable = Unit {0}
+
+-- the stores of block b, by what gib says of its GiB
+abbrev pub storesAt : frame.Frame → List ℕ → model.Request → ℕ → Gib → ℕ → ℕ → List stores.Store
+storesAt F m q root gib b new = stores.blockStores F m q root (formAt F m q root gib b) (walk.entryAt F m root b) b new
+
+-- a new page, where the block needs one
+abbrev pub Fresh : frame.Frame → List ℕ → model.Request → ℕ → Gib → ℕ → ℕ → Type 0
+Fresh F m q root gib b new = stores.needsPage (formAt F m q root gib b) (walk.entryAt F m root b) ≡ true → (frame.lent F new ≡ true) × (new < 2 ^ 44)
+
+-- no refusal fits the edit: root is its slot's root page, and free the lowest free pages
+pub record Accepted (F : frame.Frame) (m : List ℕ) (q : model.Request) (root : ℕ) (free : List ℕ) : Type 0 where
+  pub small : q .permission < 4
+  pub slots : List ℕ
+  pub none : calls.editRefusal F m slots q ≡ 0
+  pub isRoot : root ≡ calls.rootOf F slots q
+  pub areFree : free ≡ take 2 (tables.freePages F m (tables.roots F slots))
+  pub typed : (i : ℕ) → lib.ListN.getD m i 0 < 2 ^ 64
+
+-- the ordered list of its stores
+abbrev pub wholeList : frame.Frame → List ℕ → model.Request → ℕ → List ℕ → List stores.Store
+wholeList F m q root free = stores.storesFrom F m q root (model.firstGib q * gibBlocks) (model.forms F m q root) free

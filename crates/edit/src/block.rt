@@ -1,0 +1,143 @@
+// The stores of one block.
+use crate::Budget;
+use crate::Step;
+use crate::Went;
+use crate::pages::link_table;
+use crate::pages::own_table;
+use crate::put::put_changed;
+use forms::Form;
+use forms::Gib;
+use forms::Request;
+use forms::blocks::block_form;
+use forms::blocks::entry_at;
+use forms::blocks::needs_page;
+use forms::words::page_at;
+use sound::Free;
+use table::Entry;
+use table::Frame;
+use table::PageNumber;
+ghost use mathlib.Core.Path.{_≡_};
+ghost use mathlib.Core.Bool.{true};
+ghost use mathlib.Core.List.{headD};
+ghost use Prim.Native.Nat.{_+_, _<_, _^_};
+ghost use lib.ListN.{drop};
+ghost use Rattle.edit.specs.Kinds.{Encodes, storesAt, Fresh, freeList};
+ghost use Rattle.edit.specs.Run.{out, run};
+ghost use Rattle.forms.specs.Kinds.{requestOf, formOf, Fair, formAt};
+ghost use Rattle.model.specs.Forms.{wantTable};
+ghost use Rattle.model.specs.Frame.{lent, blocks};
+ghost use Rattle.model.specs.Numbers.{if_then_else_};
+ghost use Rattle.model.specs.Stores.{needsPage, ifChangedL2, blockStores};
+ghost use Rattle.model.specs.Walk.{entryAt};
+ghost use Rattle.table.specs.Views.{frameOf, entryOf};
+ghost use Rattle.theory.specs.Rooted.{Good, Rooted};
+
+// The L2 entry of block b, if it changes.
+pub fn put_entry(f: Frame, words: &mut [u64], root: PageNumber, b: u64, word: u64, left: Budget) -> Went
+    requires { ⌜ (b < 512) × (lent (frameOf f (now words)) (root .0) ≡ true) ⌝ }
+    ensures { λ r. ⌜ out (r .all) (r .left) (now (words .exit))
+        ≡ run left (ifChangedL2 (frameOf f (now (words .entry))) (now (words .entry)) (root .0) b word) (now (words .entry)) ⌝ }
+{
+    let at = page_at(f, words, root) + b as usize;
+    put_changed(words, left, at, word)
+}
+
+// The stores of a block that is to have an L1 page.
+pub fn table_stores(
+    f: Frame,
+    words: &mut [u64],
+    q: Request,
+    root: PageNumber,
+    e: Entry,
+    b: u64,
+    new: PageNumber,
+    left: Budget,
+) -> Went
+    requires { ⌜ (b < 512) × Fair q × Good (frameOf f (now words)) (now words) (entryOf e) × (lent (frameOf f (now words)) (root .0) ≡ true)
+        × (needsPage  wantTable (entryOf e) ≡ true → (lent (frameOf f (now words)) (new .0) ≡ true) × (new .0 < 2 ^ 44)) ⌝ }
+    ensures { λ r. ⌜ out (r .all) (r .left) (now (words .exit))
+        ≡ run left (blockStores (frameOf f (now (words .entry))) (now (words .entry)) (requestOf q) (root .0)  wantTable (entryOf e) b (new .0)) (now (words .entry)) ⌝ }
+{
+    match e {
+        Entry::Table(t) => own_table(f, words, q, t, b, left),
+        Entry::Flat(_) => link_table(f, words, q, root, e, b, new, left),
+        Entry::Pieces(_) => link_table(f, words, q, root, e, b, new, left),
+        Entry::Invalid => link_table(f, words, q, root, e, b, new, left),
+    }
+}
+
+// The stores of a block.
+pub fn block_stores(
+    f: Frame,
+    words: &mut [u64],
+    q: Request,
+    root: PageNumber,
+    form: Form,
+    e: Entry,
+    b: u64,
+    new: PageNumber,
+    left: Budget,
+) -> Went
+    requires { ⌜ (b < 512) × Fair q × Good (frameOf f (now words)) (now words) (entryOf e) × (lent (frameOf f (now words)) (root .0) ≡ true)
+        × (needsPage (formOf form) (entryOf e) ≡ true → (lent (frameOf f (now words)) (new .0) ≡ true) × (new .0 < 2 ^ 44)) × Encodes (formOf form) ⌝ }
+    ensures { λ r. ⌜ out (r .all) (r .left) (now (words .exit))
+        ≡ run left (blockStores (frameOf f (now (words .entry))) (now (words .entry)) (requestOf q) (root .0) (formOf form) (entryOf e) b (new .0)) (now (words .entry)) ⌝ }
+{
+    match form {
+        Form::Flat(p) => put_entry(f, words, root, b, p * 0x1000_0000_0000, left),
+        Form::Pieces(info) => put_entry(f, words, root, b, 0x6000_0000_0000 + info, left),
+        Form::Table => table_stores(f, words, q, root, e, b, new, left),
+    }
+}
+
+pub fn next_page(form: Form, e: Entry, next: usize) -> usize
+    requires { ⌜ next < 2 ^ 32 ⌝ }
+    ensures { λ r. ⌜ r ≡ (if needsPage (formOf form) (entryOf e) then next + 1 else next) ⌝ }
+{
+    if needs_page(form, e) {
+        return next + 1;
+    }
+    next
+}
+
+// The first of the free pages that are left.
+pub fn page_from(free: Free, next: usize) -> u64
+    ensures { λ r. ⌜ r ≡ headD (drop next (freeList free)) 0 ⌝ }
+{
+    if next < free.len() {
+        return free[next];
+    }
+    0
+}
+
+// One block: its finished form, and its stores.
+pub fn block_step(
+    f: Frame,
+    words: &mut [u64],
+    q: Request,
+    root: PageNumber,
+    gib: Gib,
+    b: u64,
+    free: Free,
+    next: usize,
+    left: Budget,
+) -> Step
+    requires { ⌜ Rooted (frameOf f (now words)) (now words) (root .0) × (b < blocks (frameOf f (now words))) × Fair q × (gib .p < 4) × (next < 2 ^ 32)
+        × Fresh (frameOf f (now words)) (now words) (requestOf q) (root .0) gib b (headD (drop next (freeList free)) 0) ⌝ }
+    ensures { λ r. ⌜ (out (r .all) (r .left) (now (words .exit))
+        ≡ run left (storesAt (frameOf f (now (words .entry))) (now (words .entry)) (requestOf q) (root .0) gib b (headD (drop next (freeList free)) 0)) (now (words .entry)))
+        × (r .next ≡ (if needsPage (formAt (frameOf f (now (words .entry))) (now (words .entry)) (requestOf q) (root .0) gib b)
+        (entryAt (frameOf f (now (words .entry))) (now (words .entry)) (root .0) b) then next + 1 else next)) ⌝ }
+{
+    let e = entry_at(f, words, root, b);
+    let form = block_form(f, words, q, gib.one, gib.p, e, b);
+    let new = page_from(free, next);
+    let after = next_page(form, e, next);
+    let went = block_stores(f, words, q, root, form, e, b, new, left);
+    let rest = went.left;
+    Step {
+        all: went.all,
+        left: rest,
+        next: after,
+    }
+}

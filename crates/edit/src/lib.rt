@@ -1,0 +1,173 @@
+// The edit: the stores of an accepted edit in order, up to a limit, and its answer.
+pub mod block;
+pub mod pages;
+pub mod put;
+
+use crate::block::block_step;
+use forms::Gib;
+use forms::Request;
+use forms::gibs::gib_at;
+use forms::words::page_at;
+use sound::Free;
+use table::Address;
+use table::Fence;
+use table::Frame;
+use table::PageNumber;
+use table::Sdid;
+use table::lent::block_count;
+ghost use mathlib.Core.Path.{_≡_};
+ghost use mathlib.Core.Bool.{true};
+ghost use Prim.Native.Nat.{_≤_};
+ghost use Rattle.edit.specs.Done.{fenceAfter, IsMade};
+ghost use Rattle.edit.specs.Kinds.{Accepted, wholeList, freeList};
+ghost use Rattle.edit.specs.Run.{out, run};
+ghost use Rattle.forms.specs.Kinds.{requestOf};
+ghost use Rattle.model.specs.Fence.{inRoot};
+ghost use Rattle.model.specs.Frame.{lent};
+ghost use Rattle.table.specs.Views.{frameOf};
+
+// How many more stores may be made, and which word the last one went to.
+pub struct Budget {
+    pub more: u64,
+    pub last: usize,
+}
+
+// How the stores went: all were made, and what is left; or the limit cut them.
+pub struct Went {
+    pub all: bool,
+    pub left: Budget,
+}
+
+// How a block went, and the next new page.
+pub struct Step {
+    pub all: bool,
+    pub left: Budget,
+    pub next: usize,
+}
+
+// What an edit answers: how many stores it made, whether that was all, and the fence.
+pub struct Made {
+    pub count: u64,
+    pub all: bool,
+    pub fence: Fence,
+}
+
+// The stores of an edit that no refusal fits, in order, up to the limit. free: the free pages, lowest first.
+pub fn stores(
+    f: Frame,
+    words: &mut [u64],
+    q: Request,
+    root: PageNumber,
+    free: Free,
+    limit: Budget,
+) -> Went
+    requires { ⌜ Accepted (frameOf f (now words)) (now words) (requestOf q) (root .0) (freeList free) ⌝ }
+    ensures { λ r. ⌜ out (r .all) (r .left) (now (words .exit))
+        ≡ run limit (wholeList (frameOf f (now (words .entry))) (now (words .entry)) (requestOf q) (root .0) (freeList free)) (now (words .entry)) ⌝ }
+{
+    let end = ((q.start.0 + q.size - 1) / 0x4000_0000 + 1) * 32;
+    let mut b = q.start.0 / 0x4000_0000 * 32;
+    let mut gib = Gib { one: false, p: 0 };
+    let mut next: usize = 0;
+    let mut left = limit;
+    while b < end {
+        gib = gib_at(f, words, q, root, b, gib);
+        let step = block_step(f, words, q, root, gib, b, free, next, left);
+        if !step.all {
+            return Went {
+                all: false,
+                left: left,
+            };
+        }
+        let rest = step.left;
+        left = rest;
+        next = step.next;
+        b += 1;
+    }
+    Went {
+        all: true,
+        left: left,
+    }
+}
+
+// Word at is an entry of the root.
+pub fn in_root(f: Frame, words: &[u64], root: PageNumber, at: usize) -> bool
+    requires { ⌜ (lent (frameOf f (now words)) (root .0) ≡ true) × (30 ≤ f .paw) × (f .paw ≤ 34) ⌝ }
+    ensures { λ r. ⌜ r ≡ inRoot (frameOf f (now (words .entry))) (root .0) at ⌝ }
+{
+    let start = page_at(f, words, root);
+    if at < start {
+        return false;
+    }
+    at < start + block_count(f.paw) as usize
+}
+
+// The fence after count stores, the last to word at, that were all or were cut.
+pub fn fence_of(
+    f: Frame,
+    words: &[u64],
+    q: Request,
+    root: PageNumber,
+    sdid: Sdid,
+    count: u64,
+    all: bool,
+    at: usize,
+) -> Fence
+    requires { ⌜ (lent (frameOf f (now words)) (root .0) ≡ true) × (30 ≤ f .paw) × (f .paw ≤ 34) ⌝ }
+    ensures { λ r. ⌜ fence r ≡ fenceAfter (frameOf f (now (words .entry))) (requestOf q) (root .0) sdid count all at ⌝ }
+{
+    if count == 0 {
+        return Fence::Nothing;
+    }
+    if q.size != 4096 {
+        return Fence::Domain(sdid);
+    }
+    if count != 1 {
+        return Fence::Domain(sdid);
+    }
+    if !all {
+        return Fence::Domain(sdid);
+    }
+    if in_root(f, words, root, at) {
+        return Fence::Domain(sdid);
+    }
+    Fence::Address(q.start.0, sdid)
+}
+
+// An edit that no refusal fits.
+pub fn make(
+    f: Frame,
+    words: &mut [u64],
+    q: Request,
+    root: PageNumber,
+    sdid: Sdid,
+    free: Free,
+    limit: u64,
+) -> Made
+    requires { ⌜ Accepted (frameOf f (now words)) (now words) (requestOf q) (root .0) (freeList free) ⌝ }
+    ensures { λ r. ⌜ IsMade (frameOf f (now (words .entry))) (requestOf q) (root .0) sdid
+        (wholeList (frameOf f (now (words .entry))) (now (words .entry)) (requestOf q) (root .0) (freeList free)) limit (now (words .entry)) (now (words .exit)) r ⌝ }
+{
+    let start = Budget {
+        more: limit,
+        last: 0,
+    };
+    let went = stores(f, words, q, root, free, start);
+    let rest = went.left;
+    let all = went.all;
+    if all {
+        let count = limit - rest.more;
+        let fence = fence_of(f, words, q, root, sdid, count, true, rest.last);
+        return Made {
+            count: count,
+            all: true,
+            fence: fence,
+        };
+    }
+    let fence = fence_of(f, words, q, root, sdid, limit, false, 0);
+    Made {
+        count: limit,
+        all: false,
+        fence: fence,
+    }
+}
