@@ -33,7 +33,14 @@ ghost use Rattle.table.specs.Views.{frameOf, entryOf};
 ghost use Rattle.theory.specs.Rooted.{Good, Rooted};
 
 // The L2 entry of block b, if it changes.
-pub fn put_entry(f: Frame, words: &mut [u64], root: PageNumber, b: u64, word: u64, left: Budget) -> Went
+pub fn put_entry(
+    f: Frame,
+    words: &mut [u64],
+    root: PageNumber,
+    b: u64,
+    word: u64,
+    left: Budget,
+) -> Went
     requires { ⌜ (b < 512) × (lent (frameOf f (now words)) (root .0) ≡ true) ⌝ }
     ensures { λ r. ⌜ out (r .all) (r .left) (now (words .exit))
         ≡ run left (ifChangedL2 (frameOf f (now (words .entry))) (now (words .entry)) (root .0) b word) (now (words .entry)) ⌝ }
@@ -54,9 +61,9 @@ pub fn table_stores(
     left: Budget,
 ) -> Went
     requires { ⌜ (b < 512) × Fair q × Good (frameOf f (now words)) (now words) (entryOf e) × (lent (frameOf f (now words)) (root .0) ≡ true)
-        × (needsPage  wantTable (entryOf e) ≡ true → (lent (frameOf f (now words)) (new .0) ≡ true) × (new .0 < 2 ^ 44)) ⌝ }
+        × (needsPage wantTable (entryOf e) ≡ true → (lent (frameOf f (now words)) (new .0) ≡ true) × (new .0 < 2 ^ 44)) ⌝ }
     ensures { λ r. ⌜ out (r .all) (r .left) (now (words .exit))
-        ≡ run left (blockStores (frameOf f (now (words .entry))) (now (words .entry)) (requestOf q) (root .0)  wantTable (entryOf e) b (new .0)) (now (words .entry)) ⌝ }
+        ≡ run left (blockStores (frameOf f (now (words .entry))) (now (words .entry)) (requestOf q) (root .0) wantTable (entryOf e) b (new .0)) (now (words .entry)) ⌝ }
 {
     match e {
         Entry::Table(t) => own_table(f, words, q, t, b, left),
@@ -90,7 +97,7 @@ pub fn block_stores(
     }
 }
 
-pub fn next_page(form: Form, e: Entry, next: usize) -> usize
+pub fn next_page(form: Form, e: Entry, next: u64) -> u64
     requires { ⌜ next < 2 ^ 32 ⌝ }
     ensures { λ r. ⌜ r ≡ (if needsPage (formOf form) (entryOf e) then next + 1 else next) ⌝ }
 {
@@ -100,14 +107,21 @@ pub fn next_page(form: Form, e: Entry, next: usize) -> usize
     next
 }
 
-// The first of the free pages that are left.
-pub fn page_from(free: Free, next: usize) -> u64
-    ensures { λ r. ⌜ r ≡ headD (drop next (freeList free)) 0 ⌝ }
+// The first of the free pages that are left. Page 0, which is never lent, stands for none.
+pub fn page_from(free: Free, next: u64) -> PageNumber
+    ensures { λ r. ⌜ r .0 ≡ headD (drop next (freeList free)) 0 ⌝ }
 {
-    if next < free.len() {
-        return free[next];
+    let count = free.count;
+    if count <= next {
+        return PageNumber(0);
     }
-    0
+    if next == 0 {
+        return free.first;
+    }
+    if next == 1 {
+        return free.second;
+    }
+    PageNumber(0)
 }
 
 // One block: its finished form, and its stores.
@@ -119,7 +133,7 @@ pub fn block_step(
     gib: Gib,
     b: u64,
     free: Free,
-    next: usize,
+    next: u64,
     left: Budget,
 ) -> Step
     requires { ⌜ Rooted (frameOf f (now words)) (now words) (root .0) × (b < blocks (frameOf f (now words))) × Fair q × (gib .p < 4) × (next < 2 ^ 32)

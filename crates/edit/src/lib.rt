@@ -9,7 +9,6 @@ use forms::Request;
 use forms::gibs::gib_at;
 use forms::words::page_at;
 use sound::Free;
-use table::Address;
 use table::Fence;
 use table::Frame;
 use table::PageNumber;
@@ -17,14 +16,13 @@ use table::Sdid;
 use table::lent::block_count;
 ghost use mathlib.Core.Path.{_≡_};
 ghost use mathlib.Core.Bool.{true};
-ghost use Prim.Native.Nat.{_≤_};
 ghost use Rattle.edit.specs.Done.{fenceAfter, IsMade};
 ghost use Rattle.edit.specs.Kinds.{Accepted, wholeList, freeList};
 ghost use Rattle.edit.specs.Run.{out, run};
 ghost use Rattle.forms.specs.Kinds.{requestOf};
 ghost use Rattle.model.specs.Fence.{inRoot};
-ghost use Rattle.model.specs.Frame.{lent};
-ghost use Rattle.table.specs.Views.{frameOf};
+ghost use Rattle.model.specs.Frame.{lent, boundsOk};
+ghost use Rattle.table.specs.Views.{frameOf, fenceOf};
 
 // How many more stores may be made, and which word the last one went to.
 pub struct Budget {
@@ -42,7 +40,7 @@ pub struct Went {
 pub struct Step {
     pub all: bool,
     pub left: Budget,
-    pub next: usize,
+    pub next: u64,
 }
 
 // What an edit answers: how many stores it made, whether that was all, and the fence.
@@ -68,7 +66,7 @@ pub fn stores(
     let end = ((q.start.0 + q.size - 1) / 0x4000_0000 + 1) * 32;
     let mut b = q.start.0 / 0x4000_0000 * 32;
     let mut gib = Gib { one: false, p: 0 };
-    let mut next: usize = 0;
+    let mut next: u64 = 0;
     let mut left = limit;
     while b < end {
         gib = gib_at(f, words, q, root, b, gib);
@@ -92,14 +90,14 @@ pub fn stores(
 
 // Word at is an entry of the root.
 pub fn in_root(f: Frame, words: &[u64], root: PageNumber, at: usize) -> bool
-    requires { ⌜ (lent (frameOf f (now words)) (root .0) ≡ true) × (30 ≤ f .paw) × (f .paw ≤ 34) ⌝ }
+    requires { ⌜ (lent (frameOf f (now words)) (root .0) ≡ true) × (boundsOk (frameOf f (now words)) ≡ true) ⌝ }
     ensures { λ r. ⌜ r ≡ inRoot (frameOf f (now (words .entry))) (root .0) at ⌝ }
 {
     let start = page_at(f, words, root);
     if at < start {
         return false;
     }
-    at < start + block_count(f.paw) as usize
+    at < start + block_count(f, words.len())
 }
 
 // The fence after count stores, the last to word at, that were all or were cut.
@@ -113,8 +111,8 @@ pub fn fence_of(
     all: bool,
     at: usize,
 ) -> Fence
-    requires { ⌜ (lent (frameOf f (now words)) (root .0) ≡ true) × (30 ≤ f .paw) × (f .paw ≤ 34) ⌝ }
-    ensures { λ r. ⌜ fence r ≡ fenceAfter (frameOf f (now (words .entry))) (requestOf q) (root .0) sdid count all at ⌝ }
+    requires { ⌜ (lent (frameOf f (now words)) (root .0) ≡ true) × (boundsOk (frameOf f (now words)) ≡ true) ⌝ }
+    ensures { λ r. ⌜ fenceOf r ≡ fenceAfter (frameOf f (now (words .entry))) (requestOf q) (root .0) (sdid .0) count all at ⌝ }
 {
     if count == 0 {
         return Fence::Nothing;
@@ -131,7 +129,8 @@ pub fn fence_of(
     if in_root(f, words, root, at) {
         return Fence::Domain(sdid);
     }
-    Fence::Address(q.start.0, sdid)
+    let start = q.start;
+    Fence::One(start, sdid)
 }
 
 // An edit that no refusal fits.
@@ -145,7 +144,7 @@ pub fn make(
     limit: u64,
 ) -> Made
     requires { ⌜ Accepted (frameOf f (now words)) (now words) (requestOf q) (root .0) (freeList free) ⌝ }
-    ensures { λ r. ⌜ IsMade (frameOf f (now (words .entry))) (requestOf q) (root .0) sdid
+    ensures { λ r. ⌜ IsMade (frameOf f (now (words .entry))) (requestOf q) (root .0) (sdid .0)
         (wholeList (frameOf f (now (words .entry))) (now (words .entry)) (requestOf q) (root .0) (freeList free)) limit (now (words .entry)) (now (words .exit)) r ⌝ }
 {
     let start = Budget {

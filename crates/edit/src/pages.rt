@@ -13,21 +13,28 @@ use table::Frame;
 use table::PageNumber;
 ghost use mathlib.Core.Path.{_≡_};
 ghost use mathlib.Core.Bool.{true};
-ghost use mathlib.Core.List.{[], _∷_, _++_};
+ghost use mathlib.Core.List.{[], _∷_};
 ghost use Prim.Native.Nat.{_<_, _^_};
 ghost use Rattle.edit.specs.Kinds.{Plain};
 ghost use Rattle.edit.specs.Run.{out, run};
 ghost use Rattle.forms.specs.Kinds.{requestOf, Fair};
 ghost use Rattle.model.specs.Forms.{l1Word};
 ghost use Rattle.model.specs.Frame.{lent};
-ghost use Rattle.model.specs.Layout.{rv64};
-ghost use Rattle.model.specs.Stores.{storeAt, storeL2, ifChanged, sameTable, newTable};
+ghost use Rattle.model.specs.Stores.{storeAt, ifChanged, sameTable, newTable, linkTable};
 ghost use Rattle.table.specs.Views.{frameOf, entryOf};
 ghost use Rattle.theory.specs.Rooted.{Good};
 ghost use Rattle.model.specs.Entry as entry;
 
 // L1 entry i of block b, in the block's own page t.
-pub fn same_entry(f: Frame, words: &mut [u64], q: Request, t: PageNumber, b: u64, i: u64, left: Budget) -> Went
+pub fn same_entry(
+    f: Frame,
+    words: &mut [u64],
+    q: Request,
+    t: PageNumber,
+    b: u64,
+    i: u64,
+    left: Budget,
+) -> Went
     requires { ⌜ (b < 512) × (i < 512) × Fair q × Good (frameOf f (now words)) (now words) (entry.table (t .0)) ⌝ }
     ensures { λ r. ⌜ out (r .all) (r .left) (now (words .exit))
         ≡ run left (ifChanged (frameOf f (now (words .entry))) (now (words .entry)) (t .0) i
@@ -39,7 +46,14 @@ pub fn same_entry(f: Frame, words: &mut [u64], q: Request, t: PageNumber, b: u64
 }
 
 // Those L1 entries of block b that change, in order, in the block's own page t.
-pub fn same_table(f: Frame, words: &mut [u64], q: Request, t: PageNumber, b: u64, left: Budget) -> Went
+pub fn same_table(
+    f: Frame,
+    words: &mut [u64],
+    q: Request,
+    t: PageNumber,
+    b: u64,
+    left: Budget,
+) -> Went
     requires { ⌜ (b < 512) × Fair q × Good (frameOf f (now words)) (now words) (entry.table (t .0)) ⌝ }
     ensures { λ r. ⌜ out (r .all) (r .left) (now (words .exit))
         ≡ run left (sameTable (frameOf f (now (words .entry))) (now (words .entry)) (requestOf q) (entry.table (t .0)) b (t .0)) (now (words .entry)) ⌝ }
@@ -60,7 +74,14 @@ pub fn same_table(f: Frame, words: &mut [u64], q: Request, t: PageNumber, b: u64
 }
 
 // The same; outside the range no entry changes.
-pub fn own_table(f: Frame, words: &mut [u64], q: Request, t: PageNumber, b: u64, left: Budget) -> Went
+pub fn own_table(
+    f: Frame,
+    words: &mut [u64],
+    q: Request,
+    t: PageNumber,
+    b: u64,
+    left: Budget,
+) -> Went
     requires { ⌜ (b < 512) × Fair q × Good (frameOf f (now words)) (now words) (entry.table (t .0)) ⌝ }
     ensures { λ r. ⌜ out (r .all) (r .left) (now (words .exit))
         ≡ run left (sameTable (frameOf f (now (words .entry))) (now (words .entry)) (requestOf q) (entry.table (t .0)) b (t .0)) (now (words .entry)) ⌝ }
@@ -139,8 +160,7 @@ pub fn link_table(
     requires { ⌜ (b < 512) × Fair q × Good (frameOf f (now words)) (now words) (entryOf e) × (lent (frameOf f (now words)) (new .0) ≡ true) × Plain (entryOf e)
         × (lent (frameOf f (now words)) (root .0) ≡ true) × (new .0 < 2 ^ 44) ⌝ }
     ensures { λ r. ⌜ out (r .all) (r .left) (now (words .exit))
-        ≡ run left (newTable (frameOf f (now (words .entry))) (now (words .entry)) (requestOf q) (entryOf e) b (new .0)
-        ++ (storeL2 (frameOf f (now (words .entry))) (root .0) b (entry.encode rv64 (entry.table (new .0))) ∷ [])) (now (words .entry)) ⌝ }
+        ≡ run left (linkTable (frameOf f (now (words .entry))) (now (words .entry)) (requestOf q) (root .0) (entryOf e) b (new .0)) (now (words .entry)) ⌝ }
 {
     let went = new_table(f, words, q, e, b, new, left);
     if !went.all {

@@ -7,7 +7,8 @@ ghost use mathlib.Core.List.{[], _∷_};
 ghost use Prim.Native.Nat.{_<_};
 ghost use lib.Dec.{eqb};
 ghost use lib.ListN.{length, getD};
-ghost use Rattle.edit.specs.Run.{out, run, storeOf};
+ghost use Rattle.edit.specs.Run.{out, run};
+ghost use Rattle.table.specs.Stored.{storeOf};
 ghost use Rattle.model.specs.Numbers.{if_then_else_};
 
 // One store, if one more may be made.

@@ -1,0 +1,135 @@
+-- From the stores that were made to the answer.
+use mathlib.Core.Path.{_≡_, refl, sym, ap, ap₂, _∙_, subst}
+use mathlib.Core.Bool.{Bool, true, false, not, _&&_}
+use mathlib.Core.List.{List, [], _∷_, _++_}
+use Prim.Native.Nat.{ℕ, zero, suc, _+_, _*_, _-_, _≤_, _<_}
+use native.Mathlib.Omega.{arith}
+use native.Mathlib.Numerals.{add-one}
+use lib.Dec.{eqb, leb, ltb}
+use lib.ListN.{length, take, getD, set}
+use lib.Seq.{getD-take}
+use borrow.Author.Tests.{le-leb, lt-leb, eq-eqb, ne-eqb}
+use Rattle.model.specs.Calls.{finished, rootOf, storeList, storeListWith}
+use Rattle.edit.proofs.Runs.{run-whole, run-short}
+use Rattle.edit.specs.Done.{fenceAfter}
+use Rattle.edit.specs.Kinds.{wholeList}
+use Rattle.edit.specs.Run.{Out, whole, cut, runFrom, run}
+use Rattle.edit.specs.declared.Budget.{Budget}
+use Rattle.laws.proofs.Choices.{split}
+use Rattle.model.specs.Fence.{noFence, domainFence, addressFence, inRoot, oneL1Store, fenceFor}
+use Rattle.model.specs.Forms.{Request, firstGib, forms}
+use Rattle.model.specs.Frame.{Frame, indexOf}
+use Rattle.model.specs.Layout.{rv64, gibBlocks}
+use Rattle.model.specs.Numbers.{if_then_else_}
+use Rattle.model.specs.Register.{sdidOf}
+use Rattle.model.specs.Sound.{roots, freePages}
+use Rattle.model.specs.Stores.{Store, apply, newPages}
+use Rattle.table.specs.Stored.{storeOf, Steps}
+use Rattle.theory.proofs.Along.{apply-append}
+use Rattle.theory.proofs.NewPages.{same-pages}
+
+-- ---- one store goes from limit k to limit k + 1
+
+go-on : (list : List Store) (m : List ℕ) (k : ℕ) (s : Store) → k < length list → getD list k (storeOf 0 0) ≡ s → apply (take (suc k) list) m ≡ set (apply (take k list) m) (s .at) (s .word)
+unfolding apply
+go-on [] m k s h e = absurd (omega arith)
+go-on (x ∷ xs) m zero s h e = ap (λ (y : Store). set m (y .at) (y .word)) e
+go-on (x ∷ xs) m (suc k) s h e = go-on xs (set m (x .at) (x .word)) k s (omega arith) e
+
+pub steps : (before after : List ℕ) (at word : ℕ) → after ≡ set before at word → Steps before after at word
+steps before after at word e list m k h b s =
+    e ∙ ap (λ (x : List ℕ). set x at word) b ∙ sym (go-on list m k (storeOf at word) h s) ∙ ap (λ (n : ℕ). apply (take n list) m) (sym (add-one k))
+
+-- ---- lists cut at a limit
+
+pub take-all : (list : List Store) (limit : ℕ) → length list ≤ limit → take limit list ≡ list
+take-all [] zero h = refl
+take-all [] (suc n) h = refl
+take-all (x ∷ xs) zero h = absurd (omega arith)
+take-all (x ∷ xs) (suc n) h = ap (λ (l : List Store). x ∷ l) (take-all xs n (omega arith))
+
+pub take-some : (list : List Store) (limit : ℕ) → limit ≤ length list → length (take limit list) ≡ limit
+take-some list zero h = refl
+take-some [] (suc n) h = absurd (omega arith)
+take-some (x ∷ xs) (suc n) h = ap suc (take-some xs n (omega arith))
+
+-- the last of one store
+pub last-of : (limit : ℕ) (s : Store) (m : List ℕ) (l : Budget) (n : List ℕ) → run (record { more = limit; last = 0 }) (s ∷ []) m ≡ whole l n → l .last ≡ s .at
+unfolding runFrom
+last-of zero s m l n e = absurd (let z : _≡_ {A = ℕ} 0 1 = cc in omega arith)
+last-of (suc k) s m l n e = let x : record { more = k; last = s .at } ≡ l = cc in sym (ap (λ (b : Budget). b .last) x)
+
+module _ (F : Frame) (q : Request) (root sdid : ℕ) (list : List Store) (limit : ℕ) (m : List ℕ) where
+  -- all were made
+  module _ (l : Budget) (m′ : List ℕ) (e : run (record { more = limit; last = 0 }) list m ≡ whole l m′) where
+    pub all-fits : length list + l .more ≡ limit
+    all-fits = run-whole (record { more = limit; last = 0 }) list m l m′ e .0
+
+    pub all-memory : m′ ≡ apply (take limit list) m
+    all-memory = run-whole (record { more = limit; last = 0 }) list m l m′ e .1 ∙ ap (λ (x : List Store). apply x m) (sym (take-all list limit (omega (arith, all-fits))))
+
+    pub all-count : limit - l .more ≡ length (take limit list)
+    all-count = let z : limit - l .more ≡ length list = omega (arith, all-fits) in z ∙ ap (λ (x : List Store). length x) (sym (take-all list limit (omega (arith, all-fits))))
+
+    pub all-true : true ≡ leb (length list) limit
+    all-true = sym (le-leb (length list) limit (omega (arith, all-fits)))
+
+    one-here : (x : List Store) → x ≡ list → (eqb (length x) 1 && (true && not (inRoot F root (l .last)))) ≡ oneL1Store F root x
+    unfolding oneL1Store
+    one-here [] z = refl
+    one-here (s ∷ []) z = ap (λ (k : ℕ). not (inRoot F root k)) (last-of limit s m l m′ (ap (λ (y : List Store). run (record { more = limit; last = 0 }) y m) z ∙ e))
+    one-here (s ∷ t ∷ ss) z = rw (ne-eqb (suc (suc (length ss))) 1 (λ y. omega (arith, y)))
+
+    pub all-fence : fenceAfter F q root sdid (limit - l .more) true (l .last) ≡ fenceFor F root q sdid list limit
+    unfolding fenceAfter fenceFor
+    all-fence =
+        let z : limit - l .more ≡ length list = omega (arith, all-fits) in
+        ap (λ (c : ℕ). if eqb c 0 then noFence else if eqb (q .size) 4096 && (eqb c 1 && (true && not (inRoot F root (l .last)))) then addressFence (q .start) sdid else domainFence sdid) z
+        ∙ ap₂ (λ (c : ℕ) (o : Bool). if eqb c 0 then noFence else if eqb (q .size) 4096 && o then addressFence (q .start) sdid else domainFence sdid)
+        (sym z ∙ all-count) (one-here list refl)
+
+  -- the limit cut them
+  module _ (m′ : List ℕ) (e : run (record { more = limit; last = 0 }) list m ≡ cut m′) where
+    few : limit < length list
+    few = run-short (record { more = limit; last = 0 }) list m m′ e .0
+
+    pub cut-memory : m′ ≡ apply (take limit list) m
+    cut-memory = run-short (record { more = limit; last = 0 }) list m m′ e .1
+
+    pub cut-count : limit ≡ length (take limit list)
+    cut-count = sym (take-some list limit (omega (arith, few)))
+
+    pub cut-false : false ≡ leb (length list) limit
+    cut-false = sym (lt-leb (length list) limit few)
+
+    many : (x : List Store) → 1 < length x → oneL1Store F root x ≡ false
+    unfolding oneL1Store
+    many [] h = refl
+    many (s ∷ []) h = absurd (omega arith)
+    many (s ∷ t ∷ ss) h = refl
+
+    no-and : (a b : Bool) → (a && (b && false)) ≡ (a && false)
+    no-and true true = refl
+    no-and true false = refl
+    no-and false b = refl
+
+    pub cut-fence : fenceAfter F q root sdid limit false 0 ≡ fenceFor F root q sdid list limit
+    unfolding fenceAfter fenceFor
+    cut-fence =
+        split (eqb limit 0)
+        (λ z. rw (sym cut-count, z))
+        (λ z. rw (sym cut-count, z, many list (omega (arith, few, borrow.Author.Tests.eqb-false limit 0 z)))
+        (ap (λ (b : Bool). if b then addressFence (q .start) sdid else domainFence sdid) (no-and (eqb (q .size) 4096) (eqb limit 1))))
+
+-- ---- the list in the model's own words: the two lowest free pages stand for all
+
+module _ (F : Frame) (m slots : List ℕ) (q : Request) where
+  abbrev R : ℕ
+  R = rootOf F slots q
+
+  pub list-is : newPages F m R (firstGib q * gibBlocks) (forms F m q R) ≤ 2
+      → wholeList F m q R (take 2 (freePages F m (roots F slots))) ≡ storeList F m slots q
+  unfolding storeList storeListWith finished
+  list-is few =
+      same-pages F m q R (forms F m q R) (firstGib q * gibBlocks) (take 2 (freePages F m (roots F slots))) (freePages F m (roots F slots))
+      (λ i u. getD-take 2 (freePages F m (roots F slots)) i 0 (omega arith))

@@ -1,0 +1,81 @@
+use mathlib.Core.Path.{_≡_, refl, sym, ap, _∙_, subst}
+use Prim.Native.Nat.{ℕ, _<_, _^_}
+use native.Mathlib.Omega.{arith}
+use borrow.Author.Needs.{needs}
+use Rattle.edit.specs.Kinds.{Encodes}
+use Rattle.forms.specs.Kinds.{formOf}
+use Rattle.model.specs.Entry.{encode}
+use Rattle.model.specs.Forms.{wantTable}
+use Rattle.model.specs.Stores.{needsPage, blockStores}
+use Rattle.table.specs.Views.{entryOf}
+use Rattle.edit.proofs.block.block_stores.Statement.{statement}
+use Rattle.edit.proofs.block.block_stores.Tie as tie
+
+enum-known-form : tie.Need-enum-known-form
+enum-known-form c = search needs
+
+mul-put-entry : tie.Need-mul-put-entry
+mul-put-entry c =
+    let h : c .before .before .form .given .0 .0 < 4 = rw (c .before .before .form .given .1) at (c .before .before .before .before .before .pre .5) in
+    record { fits = omega arith }
+
+put-entry-requires : tie.Need-put-entry-requires
+put-entry-requires c κs = search needs
+
+enum-known-form-2 : tie.Need-enum-known-form-2
+enum-known-form-2 c = search needs
+
+add-put-entry : tie.Need-add-put-entry
+add-put-entry c =
+    let h : c .before .before .form2 .given .0 .0 < 2 ^ 32 = rw (c .before .before .form2 .given .1) at (c .before .before .before .before .before .pre .5) in
+    record { fits = omega arith }
+
+put-entry-requires-2 : tie.Need-put-entry-requires-2
+put-entry-requires-2 c κs = search needs
+
+enum-told : tie.Need-enum-told
+enum-told c = search needs
+
+table-stores-requires : tie.Need-table-stores-requires
+table-stores-requires c κs =
+    let s = c .before .before .before .before in
+    (s .pre .0, s .pre .1, s .pre .2, s .pre .3, rw (c .before .enum-told .given .1) at (s .pre .4))
+
+same-length : tie.Need-same-length
+same-length c = search needs
+
+returns : tie.Need-returns
+unfolding blockStores encode
+returns c = rw (c .before .before .before .before .before .form .given .1) (c .before .before .put-entry .ensures)
+
+same-length-2 : tie.Need-same-length-2
+same-length-2 c = search needs
+
+returns-2 : tie.Need-returns-2
+unfolding blockStores encode
+returns-2 c = rw (c .before .before .before .before .before .form2 .given .1) (c .before .before .put-entry2 .ensures)
+
+same-length-3 : tie.Need-same-length-3
+same-length-3 c = search needs
+
+returns-3 : tie.Need-returns-3
+returns-3 c = rw (c .before .before .before .before .enum-told .given .1) (c .before .before .table-stores .ensures)
+
+pub block-stores-spec : {M : Type 1} → statement M
+block-stores-spec =
+    tie.close
+    (tie.spec
+    enum-known-form
+    mul-put-entry
+    put-entry-requires
+    enum-known-form-2
+    add-put-entry
+    put-entry-requires-2
+    enum-told
+    table-stores-requires
+    same-length
+    returns
+    same-length-2
+    returns-2
+    same-length-3
+    returns-3)

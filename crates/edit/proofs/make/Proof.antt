@@ -1,0 +1,112 @@
+use mathlib.Core.Path.{_≡_, refl, sym, ap, ap₂, _∙_, subst}
+use mathlib.Core.Bool.{Bool, true, false}
+use mathlib.Core.List.{List}
+use Prim.Native.Nat.{ℕ, _+_, _-_, _≤_, _<_}
+use native.Mathlib.Omega.{arith}
+use lib.ListN.{length}
+use Rattle.model.specs.Frame.{Frame, lent, boundsOk}
+use borrow.Author.Needs.{needs}
+use Rattle.edit.proofs.Answers.{all-fits, all-memory, all-count, all-true, all-fence, cut-memory, cut-count, cut-false, cut-fence}
+use Rattle.edit.proofs.Blocks.{frame-same}
+use Rattle.edit.proofs.Edits.{root-lent, bounds-in}
+use Rattle.edit.proofs.Runs.{out-whole, out-cut}
+use Rattle.edit.specs.Done.{fenceAfter}
+use Rattle.edit.specs.Kinds.{wholeList, Accepted, freeList}
+use Rattle.edit.specs.Run.{whole, cut, out, run}
+use Rattle.forms.specs.Kinds.{requestOf}
+use Rattle.model.specs.Stores.{Store}
+use Rattle.table.specs.Views.{frameOf, fenceOf}
+use Rattle.edit.proofs.make.Statement.{statement}
+use Rattle.edit.proofs.make.Tie as tie
+
+all-made : (c : tie.After-struct-known) → let a = c .before .before .before .before .before .before .before .before .args in let r = c .before .before .before .before .before .stores in
+    run (record { more = a .limit; last = 0 }) (wholeList (frameOf (a .f) (a .words .now)) (a .words .now) (requestOf (a .q)) (a .root .0) (freeList (a .free))) (a .words .now) ≡ whole (r .result .left) (r .last .1 .0)
+all-made c =
+    let r = c .before .before .before .before .before .stores in
+    sym (r .ensures) ∙ out-whole (r .result .all) (r .result .left) (r .last .1 .0) (c .before .if1 .taken)
+
+was-cut : (c : tie.Else1) → let a = c .before .before .before .before .before .before .before .args in let r = c .before .before .before .before .stores in
+    run (record { more = a .limit; last = 0 }) (wholeList (frameOf (a .f) (a .words .now)) (a .words .now) (requestOf (a .q)) (a .root .0) (freeList (a .free))) (a .words .now) ≡ cut (r .last .1 .0)
+was-cut c =
+    let r = c .before .before .before .before .stores in
+    sym (r .ensures) ∙ out-cut (r .result .all) (r .result .left) (r .last .1 .0) (c .if1 .left)
+
+stores-requires : tie.Need-stores-requires
+stores-requires c κs = search needs
+
+sub-count : tie.Need-sub-count
+sub-count c =
+    let a = c .before .before .before .before .before .before .before .before .args in
+    let r = c .before .before .before .before .before .stores in
+    omega (arith, all-fits (frameOf (a .f) (a .words .now)) (requestOf (a .q)) (a .root .0) (a .sdid .0) (wholeList (frameOf (a .f) (a .words .now)) (a .words .now) (requestOf (a .q)) (a .root .0) (freeList (a .free))) (a .limit) (a .words .now) (r .result .left) (r .last .1 .0) (all-made c))
+
+fence-of-requires : tie.Need-fence-of-requires
+fence-of-requires c κs =
+    let s = c .before .before .before .before .before .before .before .before .before in
+    let r = c .before .before .before .before .before .before .stores in
+    let back : (X : Frame → Type 0) → X (frameOf (s .args .f) (s .args .words .now)) → X (frameOf (s .args .f) (r .last .1 .0))
+    = λ X. subst X (sym (frame-same (s .args .f) (r .last .1 .0) (s .args .words .now) (r .kept .1 .0))) in (
+      back (λ X. lent X (s .args .root .0) ≡ true) (root-lent (s .args .f) (s .args .words .now) (requestOf (s .args .q)) (s .args .root .0) (freeList (s .args .free)) (s .pre)),
+      back (λ X. boundsOk X ≡ true) (bounds-in (s .args .f) (s .args .words .now) (requestOf (s .args .q)) (s .args .root .0) (freeList (s .args .free)) (s .pre)),
+    )
+
+same-length : tie.Need-same-length
+same-length c = search needs
+
+returns : tie.Need-returns
+returns c =
+    let b = c .before .before in
+    let a = b .before .before .before .before .before .before .before .before .args in
+    let r = b .before .before .before .before .before .stores in
+    let F = frameOf (a .f) (a .words .now) in
+    let list : List Store = wholeList (frameOf (a .f) (a .words .now)) (a .words .now) (requestOf (a .q)) (a .root .0) (freeList (a .free)) in
+    record {
+      memory = all-memory F (requestOf (a .q)) (a .root .0) (a .sdid .0) list (a .limit) (a .words .now) (r .result .left) (r .last .1 .0) (all-made b);
+      count = all-count F (requestOf (a .q)) (a .root .0) (a .sdid .0) list (a .limit) (a .words .now) (r .result .left) (r .last .1 .0) (all-made b);
+      all = all-true F (requestOf (a .q)) (a .root .0) (a .sdid .0) list (a .limit) (a .words .now) (r .result .left) (r .last .1 .0) (all-made b);
+      asked =
+          subst (λ (X : Frame). fenceOf (c .fence-of .result) ≡ fenceAfter X (requestOf (a .q)) (a .root .0) (a .sdid .0) (a .limit - r .result .left .more) true (r .result .left .last)) (frame-same (a .f) (r .last .1 .0) (a .words .now) (r .kept .1 .0)) (c .fence-of .ensures)
+          ∙ all-fence F (requestOf (a .q)) (a .root .0) (a .sdid .0) list (a .limit) (a .words .now) (r .result .left) (r .last .1 .0) (all-made b);
+    }
+
+fence-of-requires-2 : tie.Need-fence-of-requires-2
+fence-of-requires-2 c κs =
+    let s = c .before .before .before .before .before .before .before .before in
+    let r = c .before .before .before .before .before .stores in
+    let back : (X : Frame → Type 0) → X (frameOf (s .args .f) (s .args .words .now)) → X (frameOf (s .args .f) (r .last .1 .0))
+    = λ X. subst X (sym (frame-same (s .args .f) (r .last .1 .0) (s .args .words .now) (r .kept .1 .0))) in (
+      back (λ X. lent X (s .args .root .0) ≡ true) (root-lent (s .args .f) (s .args .words .now) (requestOf (s .args .q)) (s .args .root .0) (freeList (s .args .free)) (s .pre)),
+      back (λ X. boundsOk X ≡ true) (bounds-in (s .args .f) (s .args .words .now) (requestOf (s .args .q)) (s .args .root .0) (freeList (s .args .free)) (s .pre)),
+    )
+
+same-length-2 : tie.Need-same-length-2
+same-length-2 c = search needs
+
+returns-2 : tie.Need-returns-2
+returns-2 c =
+    let b = c .before .before in
+    let a = b .before .before .before .before .before .before .before .args in
+    let r = b .before .before .before .before .stores in
+    let F = frameOf (a .f) (a .words .now) in
+    let list : List Store = wholeList (frameOf (a .f) (a .words .now)) (a .words .now) (requestOf (a .q)) (a .root .0) (freeList (a .free)) in
+    record {
+      memory = cut-memory F (requestOf (a .q)) (a .root .0) (a .sdid .0) list (a .limit) (a .words .now) (r .last .1 .0) (was-cut b);
+      count = cut-count F (requestOf (a .q)) (a .root .0) (a .sdid .0) list (a .limit) (a .words .now) (r .last .1 .0) (was-cut b);
+      all = cut-false F (requestOf (a .q)) (a .root .0) (a .sdid .0) list (a .limit) (a .words .now) (r .last .1 .0) (was-cut b);
+      asked =
+          subst (λ (X : Frame). fenceOf (c .fence-of2 .result) ≡ fenceAfter X (requestOf (a .q)) (a .root .0) (a .sdid .0) (a .limit) false 0) (frame-same (a .f) (r .last .1 .0) (a .words .now) (r .kept .1 .0)) (c .fence-of2 .ensures)
+          ∙ cut-fence F (requestOf (a .q)) (a .root .0) (a .sdid .0) list (a .limit) (a .words .now) (r .last .1 .0) (was-cut b);
+    }
+
+pub make-spec : {M : Type 1} → statement M
+make-spec =
+    tie.close
+    (tie.spec
+    stores-requires
+    sub-count
+    fence-of-requires
+    same-length
+    returns
+    fence-of-requires-2
+    same-length-2
+    returns-2)

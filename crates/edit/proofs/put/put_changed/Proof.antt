@@ -1,0 +1,30 @@
+use mathlib.Core.Path.{_≡_, sym, ap, _∙_}
+use borrow.Author.Tests.{eq-eqb, ne-eqb}
+use borrow.Author.Needs.{needs}
+use Rattle.edit.proofs.Runs.{run-none}
+use Rattle.edit.specs.Run.{whole}
+use Rattle.table.specs.Stored.{storeOf}
+use Rattle.edit.proofs.put.put_changed.Statement.{statement}
+use Rattle.edit.proofs.put.put_changed.Tie as tie
+
+mul-if1 : tie.Need-mul-if1
+mul-if1 c = search needs
+
+slice-read-if1 : tie.Need-slice-read-if1
+slice-read-if1 c = search needs
+
+returns : tie.Need-returns
+returns c = rw (eq-eqb _ _ (c .if1 .taken)) (sym (run-none _ _))
+
+put-requires : tie.Need-put-requires
+put-requires c κs = search needs
+
+same-length : tie.Need-same-length
+same-length c = search needs
+
+returns-2 : tie.Need-returns-2
+returns-2 c = rw (ne-eqb _ _ (c .before .before .before .before .if1 .left)) (c .before .before .put .ensures)
+
+pub put-changed-spec : {M : Type 1} → statement M
+put-changed-spec =
+    tie.close (tie.spec mul-if1 slice-read-if1 returns put-requires same-length returns-2)

@@ -1,0 +1,146 @@
+use mathlib.Core.List.{List}
+use Rattle.table.specs.declared.Frame as code
+use Rattle.forms.specs.declared.Request as code′
+use mathlib.Core.Path.{_≡_, refl, sym, ap, ap₂, _∙_, subst}
+use mathlib.Core.Bool.{Bool, true, false}
+use Prim.Native.Nat.{ℕ, _+_, _-_, _*_, _/_, _≤_, _<_}
+use native.Mathlib.Omega.{arith}
+use borrow.Author.Tests.{not-true, not-false}
+use lib.ListN.{length}
+use Rattle.edit.proofs.Edits.{Facts, facts, Turn, turn-start, turn-rooted, turn-room, turn-in, turn-flag, turn-fresh, turn-cut, turn-next, turn-end, size}
+use Rattle.edit.proofs.Runs.{out-whole, out-cut}
+use Rattle.forms.specs.declared.Gib.{Gib}
+use Rattle.edit.specs.Kinds.{freeList}
+use Rattle.forms.specs.Kinds.{requestOf, Fair}
+use Rattle.table.specs.Views.{frameOf}
+use Rattle.edit.proofs.stores.Statement.{statement}
+use Rattle.edit.proofs.stores.Tie as tie
+
+abbrev Inv-loop : tie.InvT-loop
+Inv-loop f words₀ q root free end b₀ gib₀ next₀ left₀ words b gib next left = Turn f words₀ (requestOf q) (root .0) (freeList free) left₀ end words b gib next left
+
+abbrev μ-loop : tie.MeasureT-loop
+μ-loop f words₀ q root free end b₀ gib₀ next₀ left₀ words b gib next left = end - b
+
+known : (c : tie.After-struct-known Inv-loop μ-loop) → let a = c .before .before .args in Facts (a .f) (a .words .now) (requestOf (a .q)) (a .root .0) (freeList (a .free))
+known c = let s = c .before .before in facts (s .args .f) (s .args .words .now) (requestOf (s .args .q)) (s .args .root .0) (freeList (s .args .free)) (s .pre)
+
+fair : {f : code.Frame} {m : List ℕ} {q : code′.Request} {root : ℕ} {free : List ℕ} → Facts f m (requestOf q) root free → Fair q
+fair k = record { small = k .low; ends = k .ends }
+
+add-end : tie.Need-add-end Inv-loop μ-loop
+add-end c = let k = known c in record { fits = omega (arith, k .ends) }
+
+sub-end : tie.Need-sub-end Inv-loop μ-loop
+sub-end c = let k = known c in omega (arith, k .some)
+
+add-end-2 : tie.Need-add-end-2 Inv-loop μ-loop
+add-end-2 c = let k = known c in record { fits = omega (arith, k .ends) }
+
+mul-end : tie.Need-mul-end Inv-loop μ-loop
+mul-end c = let k = known c in record { fits = omega (arith, k .ends) }
+
+mul-b : tie.Need-mul-b Inv-loop μ-loop
+mul-b c = let k = known (c .before) in record { fits = omega (arith, k .ends) }
+
+loop-holds : tie.Need-loop-holds Inv-loop μ-loop
+loop-holds c =
+    let a = c .before .before .before .args in
+    turn-start (a .f) (a .words .now) (requestOf (a .q)) (a .root .0) (freeList (a .free)) (a .limit) (known (c .before)) _ _ _ refl refl
+
+gib-at-requires : tie.Need-gib-at-requires Inv-loop μ-loop
+gib-at-requires c κs =
+    let l = c .before .before in
+    let a = l .before .before .before .before .args in (
+      turn-rooted (a .f) (a .words .now) (requestOf (a .q)) (a .root .0) (freeList (a .free)) (a .limit) _ (l .loop .words) (l .loop .b) (l .loop .gib) (l .loop .next) (l .loop .left) (l .loop .inv) (omega arith),
+      turn-room (a .f) (a .words .now) (requestOf (a .q)) (a .root .0) (freeList (a .free)) (a .limit) _ (l .loop .words) (l .loop .b) (l .loop .gib) (l .loop .next) (l .loop .left) (l .loop .inv) (omega arith),
+      fair (l .loop .inv .k),
+      turn-flag (a .f) (a .words .now) (requestOf (a .q)) (a .root .0) (freeList (a .free)) (a .limit) _ (l .loop .words) (l .loop .b) (l .loop .gib) (l .loop .next) (l .loop .left) (l .loop .inv) (omega arith),
+    )
+
+block-step-requires : tie.Need-block-step-requires Inv-loop μ-loop
+block-step-requires c κs =
+    let l = c .before .before .before .before in
+    let a = l .before .before .before .before .args in
+    let t = l .loop .inv in (
+      turn-rooted (a .f) (a .words .now) (requestOf (a .q)) (a .root .0) (freeList (a .free)) (a .limit) _ (l .loop .words) (l .loop .b) (l .loop .gib) (l .loop .next) (l .loop .left) t (omega arith),
+      turn-in (a .f) (a .words .now) (requestOf (a .q)) (a .root .0) (freeList (a .free)) (a .limit) _ (l .loop .words) (l .loop .b) (l .loop .gib) (l .loop .next) (l .loop .left) t (omega arith),
+      fair (t .k),
+      c .before .gib-at .ensures .2,
+      omega (arith, t .going .taken, t .k .few),
+      turn-fresh (a .f) (a .words .now) (requestOf (a .q)) (a .root .0) (freeList (a .free)) (a .limit) _ (l .loop .words) (l .loop .b) (l .loop .gib) (l .loop .next) (l .loop .left) t (omega arith)
+          (c .before .gib-at .result) (c .before .gib-at .ensures),
+    )
+
+same-length : tie.Need-same-length Inv-loop μ-loop
+same-length c =
+    let l = c .before .before .before .before .before .before .before .before .before in
+    let a = l .before .before .before .before .args in
+    let t = l .loop .inv in
+    c .before .before .before .before .block-step .kept .1 .0 ∙ size (a .f) (a .words .now) (requestOf (a .q)) (a .root .0) (freeList (a .free)) (t .k) (a .limit) (l .loop .words) (l .loop .b) (l .loop .next) (l .loop .left) (t .going)
+
+returns : tie.Need-returns Inv-loop μ-loop
+returns c =
+    let l = c .before .before .before .before .before .before .before .before .before in
+    let a = l .before .before .before .before .args in
+    let t = l .loop .inv in
+    let r = c .before .before .before .before .block-step in
+    let g = c .before .before .before .before .before .before .gib-at in
+    let z = out-cut (r .result .all) (r .result .left) (r .last .1 .0) (not-true (r .result .all) (c .if1 .taken)) in
+    sym z ∙ turn-cut (a .f) (a .words .now) (requestOf (a .q)) (a .root .0) (freeList (a .free)) (a .limit) _ (l .loop .words) (l .loop .b) (l .loop .gib) (l .loop .next) (l .loop .left) t (c .before .before .before .before .before .before .before .before .loop-test .taken)
+    (g .result) (g .ensures) _ (r .ensures .0) z
+
+add-b : tie.Need-add-b Inv-loop μ-loop
+add-b c =
+    let l = c .before .before .before .before .before .before .before .before .before .before in
+    let t = l .loop .inv in
+    omega (arith, t .isEnd)
+
+loop-less : tie.Need-loop-less Inv-loop μ-loop
+loop-less c = omega arith
+
+loop-again : tie.Need-loop-again Inv-loop μ-loop
+loop-again c =
+    let l = c .before .before .before .before .before .before .before .before .before .before in
+    let a = l .before .before .before .before .args in
+    let t = l .loop .inv in
+    let r = c .before .before .before .before .before .block-step in
+    let g = c .before .before .before .before .before .before .before .gib-at in
+    let z = out-whole (r .result .all) (r .result .left) (r .last .1 .0) (not-false (r .result .all) (c .before .if1 .left)) in
+    turn-next (a .f) (a .words .now) (requestOf (a .q)) (a .root .0) (freeList (a .free)) (a .limit) _ (l .loop .words) (l .loop .b) (l .loop .gib) (l .loop .next) (l .loop .left) t (c .before .before .before .before .before .before .before .before .before .loop-test .taken)
+    (g .result) (g .ensures) _ (r .ensures .0) z (r .result .next) (r .ensures .1)
+
+same-length-2 : tie.Need-same-length-2 Inv-loop μ-loop
+same-length-2 c =
+    let l = c .before in
+    let a = l .before .before .before .before .args in
+    let t = l .loop .inv in
+    size (a .f) (a .words .now) (requestOf (a .q)) (a .root .0) (freeList (a .free)) (t .k) (a .limit) (l .loop .words) (l .loop .b) (l .loop .next) (l .loop .left) (t .going)
+
+returns-2 : tie.Need-returns-2 Inv-loop μ-loop
+returns-2 c =
+    let l = c .before in
+    let a = l .before .before .before .before .args in
+    turn-end (a .f) (a .words .now) (requestOf (a .q)) (a .root .0) (freeList (a .free)) (a .limit) _ (l .loop .words) (l .loop .b) (l .loop .gib) (l .loop .next) (l .loop .left) (l .loop .inv) (c .loop-test .left)
+
+pub stores-spec : {M : Type 1} → statement M
+stores-spec =
+    tie.close
+    (tie.spec
+    Inv-loop
+    μ-loop
+    add-end
+    sub-end
+    add-end-2
+    mul-end
+    mul-b
+    loop-holds
+    gib-at-requires
+    block-step-requires
+    same-length
+    returns
+    add-b
+    loop-less
+    loop-again
+    same-length-2
+    returns-2)
