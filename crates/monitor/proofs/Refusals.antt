@@ -9,7 +9,7 @@ use Rattle.model.specs.Layout.{rv64}
 use Rattle.model.specs.Register.{sdidOf, registerOf}
 use Rattle.model.specs.Frame.{frameOk, indexOf}
 use Rattle.model.specs.Frame as frame
-use Rattle.model.specs.Sound.{Slot, register, emptySlot, isOpen, roots, sdids, sound, freePages}
+use Rattle.model.specs.Sound.{Slot, register, emptySlot, roots, sdids, sound, freePages}
 use Rattle.model.specs.Fence.{noFence, domainFence}
 use Rattle.model.specs.Calls.{opened, closed, firstMet, slotAt, refuse, openRefusal, openAt, openSlot, closeRefusal, closeSlot}
 use Rattle.table.specs.declared.Frame.{Frame}

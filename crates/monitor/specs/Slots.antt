@@ -3,9 +3,9 @@ use mathlib.Core.Bool.{Bool, _&&_, _||_, not}
 use mathlib.Core.List.{List, map}
 use Prim.Native.Nat.{ℕ}
 use lib.Dec.{eqb, ltb}
+use Rattle.model.specs.Numbers.{member}
 use Rattle.model.specs.Layout.{rv64, slotCount, maxSdid}
 use Rattle.model.specs.Register.{sdidOf}
-use Rattle.model.specs.Numbers.{member}
 use Rattle.model.specs.Sound.{Slot, register, isOpen, openRegisters}
 use Rattle.model.specs.Calls.{slotAt}
 

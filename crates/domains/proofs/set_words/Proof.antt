@@ -1,7 +1,7 @@
 -- `domains::set_words` meets its contract.
-use borrow.Author.Needs.{needs}
 use Prim.Native.Nat.{_≤_, _-_}
 use native.Mathlib.Omega.{arith}
+use borrow.Author.Needs.{needs}
 use Rattle.domains.proofs.set_words.Statement.{statement}
 use Rattle.domains.proofs.set_words.Tie as tie
 

@@ -1,11 +1,11 @@
 -- `monitor::close` meets its contract.
 use mathlib.Core.Path.{_≡_, sym, ap, _∙_}
-use mathlib.Core.Bool.{Bool, true, false}
-use mathlib.Core.List.{List}
-use Prim.Native.Nat.{ℕ, _<_}
+use mathlib.Core.Bool.{true}
+use Prim.Native.Nat.{_<_}
 use native.Mathlib.Omega.{arith}
 use denote.Ref.{now}
 use borrow.Author.Tests.{not-true, not-false}
+use borrow.Author.Needs.{needs}
 use Rattle.model.specs.Frame.{frameOk}
 use Rattle.model.specs.Sound.{sound}
 use Rattle.model.specs.Calls.{slotAt, refuse}
@@ -13,11 +13,8 @@ use Rattle.table.specs.Views.{frameOf}
 use Rattle.table.proofs.Frames.{framed}
 use Rattle.sound.specs.declared.Checked.{Checked}
 use Rattle.sound.proofs.Laws.{says-sound}
-use Rattle.monitor.specs.declared.Outcome.{Outcome}
-use Rattle.monitor.specs.Outcomes.{outcomeOf}
 use Rattle.monitor.proofs.Refusals.{close-frame, close-unsound, close-slot, close-done}
 use Rattle.monitor.proofs.Sdids.{slot-low}
-use borrow.Author.Needs.{needs}
 use Rattle.monitor.proofs.close.Statement.{statement}
 use Rattle.monitor.proofs.close.Tie as tie
 

@@ -1,28 +1,25 @@
 -- `monitor::open` meets its contract.
-use Rattle.model.specs.Calls as calls
 use mathlib.Core.Path.{_≡_, sym, ap, _∙_}
 use mathlib.Core.Bool.{Bool, true, false}
-use mathlib.Core.List.{List, headD}
-use Prim.Native.Nat.{ℕ, _≤_, _<_}
-use native.Mathlib.Omega.{arith}
+use mathlib.Core.List.{List}
 use lib.Dec.{eqb}
 use lib.ListN.{length}
 use denote.Ref.{now}
 use borrow.Author.Tests.{not-true, not-false, eq-eqb, ne-eqb}
+use borrow.Author.Needs.{needs}
 use Rattle.model.specs.Frame.{frameOk, lent}
 use Rattle.model.specs.Sound.{roots, used, sound, freePages}
+use Rattle.model.specs.Calls as calls
 use Rattle.model.specs.Calls.{refuse}
 use Rattle.table.specs.Views.{frameOf}
 use Rattle.table.proofs.Frames.{framed, bounds}
 use Rattle.sound.specs.declared.Checked.{Checked}
 use Rattle.sound.specs.declared.Free.{Free}
-use Rattle.sound.specs.Scan.{marksOf}
 use Rattle.sound.specs.Free.{clearPages, listed}
 use Rattle.sound.proofs.Laws.{says-sound, says-used, clear-is-free, free-lent, head-lent}
 use Rattle.monitor.specs.Slots.{notEmpty, badSdid}
 use Rattle.monitor.proofs.Refusals.{open-frame, open-unsound, open-slot, open-sdid, open-no-room, open-done}
 use Rattle.monitor.proofs.Sdids.{slot-low, sdid-low}
-use borrow.Author.Needs.{needs}
 use Rattle.monitor.proofs.open.Statement.{statement}
 use Rattle.monitor.proofs.open.Tie as tie
 

@@ -1,16 +1,16 @@
 -- `monitor::open_at` meets its contract.
 use mathlib.Core.List.{List}
+use mathlib.Core.Path.{sym, ap, ap₂, _∙_}
 use Prim.Native.Nat.{ℕ}
+use native.Mathlib.Omega.{arith}
 use lib.ListN.{set}
 use denote.Ref.{now}
+use borrow.Author.Needs.{needs}
 use Rattle.model.specs.Fence.{noFence}
 use Rattle.model.specs.Calls as calls
-use Rattle.monitor.proofs.Refusals.{opened-at}
-use mathlib.Core.Path.{_≡_, refl, sym, ap, ap₂, _∙_}
-use native.Mathlib.Omega.{arith}
 use Rattle.table.proofs.Frames.{bounds, lent-in, few-pages}
 use Rattle.monitor.specs.Zeroed.{zeroed}
-use borrow.Author.Needs.{needs}
+use Rattle.monitor.proofs.Refusals.{opened-at}
 use Rattle.monitor.proofs.open_at.Statement.{statement}
 use Rattle.monitor.proofs.open_at.Tie as tie
 

@@ -3,7 +3,7 @@ use mathlib.Core.Path.{_≡_, refl, sym, ap, _∙_}
 use mathlib.Core.List.{List}
 use Prim.Native.Nat.{ℕ, _+_, _-_, _≤_, _<_}
 use native.Mathlib.Omega.{arith}
-use lib.ListN.{length, set, length-set}
+use lib.ListN.{length, length-set}
 use Rattle.monitor.specs.Zeroed.{zeroed}
 use Rattle.monitor.proofs.Zeroes.{left, left-all, left-next, left-none}
 use Rattle.monitor.proofs.page.zero_page.Statement.{statement}

@@ -1,8 +1,7 @@
 -- `monitor::slots::holds` meets its contract.
-use mathlib.Core.Path.{refl, sym}
 use borrow.Author.Tests.{eq-eqb, ne-eqb}
-use Rattle.model.specs.Sound.{isOpen}
 use borrow.Author.Needs.{needs}
+use Rattle.model.specs.Sound.{isOpen}
 use Rattle.monitor.proofs.slots.holds.Statement.{statement}
 use Rattle.monitor.proofs.slots.holds.Tie as tie
 

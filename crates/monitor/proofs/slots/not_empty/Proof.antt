@@ -1,8 +1,8 @@
 -- `monitor::slots::not_empty` meets its contract.
 use borrow.Author.Tests.{lt-ltb, le-ltb}
+use borrow.Author.Needs.{needs}
 use Rattle.model.specs.Sound.{isOpen}
 use Rattle.model.specs.Calls.{slotAt}
-use borrow.Author.Needs.{needs}
 use Rattle.monitor.proofs.slots.not_empty.Statement.{statement}
 use Rattle.monitor.proofs.slots.not_empty.Tie as tie
 

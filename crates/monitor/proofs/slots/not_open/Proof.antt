@@ -1,11 +1,10 @@
 -- `monitor::slots::not_open` meets its contract.
 use mathlib.Core.Path.{_≡_, refl}
 use mathlib.Core.Bool.{Bool, true, false, not}
-use lib.Dec.{eqb}
 use borrow.Author.Tests.{lt-ltb, le-ltb}
+use borrow.Author.Needs.{needs}
 use Rattle.model.specs.Sound.{isOpen}
 use Rattle.model.specs.Calls.{slotAt}
-use borrow.Author.Needs.{needs}
 use Rattle.monitor.proofs.slots.not_open.Statement.{statement}
 use Rattle.monitor.proofs.slots.not_open.Tie as tie
 
