@@ -7,13 +7,12 @@ use native.Mathlib.Omega.{arith}
 use lib.Dec.{eqb}
 use lib.ListN.{length, getD}
 use borrow.Author.Tests.{le-leb, lt-ltb}
-use Rattle.model.specs.Numbers.{if_then_else_, each, joined, member, distinct}
+use Rattle.model.specs.Numbers.{if_then_else_, each, joined, member}
 use Rattle.model.specs.Frame.{Frame, lent}
-use Rattle.model.specs.Sound.{Slot, roots, used, soundRoot, soundSlots, soundTable, sound, freeOf, freePages}
+use Rattle.model.specs.Sound.{Slot, roots, used, soundSlots, soundTable, sound, freeOf, freePages}
 use Rattle.table.proofs.Runs.{both, each-step, each-append, joined-cong}
-use Rattle.sound.specs.declared.Checked.{Checked}
 use Rattle.sound.specs.Scan.{marksOf, refusedCheck, checkedOf}
-use Rattle.sound.specs.Free.{clearAt, clearPages}
+use Rattle.sound.specs.Free.{clearPages}
 use Rattle.sound.proofs.Pages.{used-lent, marked-member}
 
 -- ---- a free page is lent

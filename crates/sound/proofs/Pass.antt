@@ -18,9 +18,9 @@ use Rattle.model.specs.Walk.{rootPages, entryAt}
 use Rattle.model.specs.Sound.{Slot, register, isOpen, openRegisters, linkOf, roots, sdids, linksIn, used, cleanPage, soundEntry, soundRegister, soundRoot, soundSlots, soundTable}
 use Rattle.table.specs.declared.Frame.{Frame}
 use Rattle.table.specs.Views.{frameOf}
-use Rattle.table.proofs.Runs.{and-true, each-step}
+use Rattle.table.proofs.Runs.{each-step}
 use Rattle.table.proofs.Frames.{bounds}
-use Rattle.sound.specs.Scan.{Scan, unsound, marked, answer, andThen, scanAll, scanRun, markOf, registerStep, claimOf, markAll, marksOf, linkStep, entryStep, blockStep, rootStep, slotStep}
+use Rattle.sound.specs.Scan.{Scan, unsound, marked, answer, andThen, scanAll, markOf, registerStep, claimOf, marksOf, linkStep, entryStep, blockStep, rootStep, slotStep}
 use Rattle.sound.proofs.Marks.{claimAll, then-unsound, then-marked, then-same, spread, all-claims, run-claims, setAll, claims}
 use Rattle.sound.proofs.Pages.{place, used-lent, place-distinct, marks-at-places, places-low}
 

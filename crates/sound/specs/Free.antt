@@ -1,5 +1,5 @@
 -- The free pages by the marks alone.
-use mathlib.Core.Bool.{Bool, true, false}
+use mathlib.Core.Bool.{Bool, false}
 use mathlib.Core.List.{List, [], _∷_, headD, tail}
 use Prim.Native.Nat.{ℕ, _-_}
 use lib.ListN.{length, getD}

@@ -7,8 +7,8 @@ use native.Mathlib.Omega.{arith}
 use lib.ListN.{length, getD}
 use lib.Pow.{pow-mono}
 use borrow.Author.Tests.{leb-true, ltb-true, eqb-true}
-use Rattle.model.specs.Frame.{Frame, blocks, space, lent, boundsOk, frameOk, indexOf, wordAt}
 use Rattle.model.specs.Entry.{decode}
+use Rattle.model.specs.Frame.{Frame, space, lent, boundsOk, frameOk, indexOf, wordAt}
 use Rattle.model.specs.Walk.{entryAt, entryPage, entryPlace, l2Word}
 use Rattle.table.proofs.Runs.{both}
 

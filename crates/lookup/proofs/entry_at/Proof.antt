@@ -1,8 +1,8 @@
 -- `lookup::entry_at` meets its contract.
-use Rattle.model.specs.Walk.{entryAt, entryPage}
-use Rattle.table.proofs.Frames.{entry-at}
 use mathlib.Core.Path.{sym, _∙_}
 use borrow.Author.Needs.{needs}
+use Rattle.model.specs.Walk.{entryAt, entryPage}
+use Rattle.table.proofs.Frames.{entry-at}
 use Rattle.lookup.proofs.entry_at.Statement.{statement}
 use Rattle.lookup.proofs.entry_at.Tie as tie
 

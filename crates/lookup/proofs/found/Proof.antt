@@ -1,8 +1,6 @@
 -- `lookup::found` meets its contract.
-use Rattle.model.specs.Walk.{found, pieceOf}
-use Rattle.table.specs.Views.{entryOf}
-use Rattle.table.specs.Bounds.{Small}
 use borrow.Author.Needs.{needs}
+use Rattle.model.specs.Walk.{found, pieceOf}
 use Rattle.lookup.proofs.found.Statement.{statement}
 use Rattle.lookup.proofs.found.Tie as tie
 

@@ -1,11 +1,11 @@
 -- `lookup::in_table` meets its contract.
-use mathlib.Core.Path.{_≡_, sym, ap, _∙_}
+use mathlib.Core.Path.{sym, ap, _∙_}
 use Prim.Native.Nat.{ℕ, _%_}
+use borrow.Author.Needs.{needs}
 use Rattle.model.specs.Layout.{rv64}
 use Rattle.model.specs.Entry.{fieldOf}
 use Rattle.model.specs.Walk.{found, pn0, pn1}
 use Rattle.table.proofs.Frames.{word-at}
-use borrow.Author.Needs.{needs}
 use Rattle.lookup.proofs.in_table.Statement.{statement}
 use Rattle.lookup.proofs.in_table.Tie as tie
 

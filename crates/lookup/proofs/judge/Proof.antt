@@ -1,6 +1,6 @@
 -- `lookup::judge` meets its contract.
-use Rattle.model.specs.Access.{judge}
 use borrow.Author.Needs.{needs}
+use Rattle.model.specs.Access.{judge}
 use Rattle.lookup.proofs.judge.Statement.{statement}
 use Rattle.lookup.proofs.judge.Tie as tie
 

@@ -1,15 +1,15 @@
 -- `lookup::lookup` meets its contract.
 use mathlib.Core.Path.{_≡_, sym, _∙_}
-use mathlib.Core.Bool.{true, false}
+use mathlib.Core.Bool.{true}
 use denote.Ref.{now}
 use borrow.Author.Tests.{not-true, not-false}
-use Rattle.model.specs.Layout.{rv64}
-use Rattle.model.specs.Register.{registerOk, isBare}
-use Rattle.model.specs.Frame.{frameOk}
-use Rattle.model.specs.Lookup.{lookup, reads, isMachine}
-use Rattle.table.specs.Views.{frameOf, privilegeOf}
-use Rattle.table.proofs.Frames.{framed}
 use borrow.Author.Needs.{needs}
+use Rattle.model.specs.Layout.{rv64}
+use Rattle.model.specs.Register.{registerOk}
+use Rattle.model.specs.Frame.{frameOk}
+use Rattle.model.specs.Lookup.{lookup, reads}
+use Rattle.table.specs.Views.{frameOf}
+use Rattle.table.proofs.Frames.{framed}
 use Rattle.lookup.proofs.lookup.Statement.{statement}
 use Rattle.lookup.proofs.lookup.Tie as tie
 

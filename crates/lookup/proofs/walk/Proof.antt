@@ -1,7 +1,7 @@
 -- `lookup::walk` meets its contract.
 use borrow.Author.Tests.{lt-ltb, le-ltb}
-use Rattle.model.specs.Walk.{walk, pn2}
 use borrow.Author.Needs.{needs}
+use Rattle.model.specs.Walk.{walk, pn2}
 use Rattle.lookup.proofs.walk.Statement.{statement}
 use Rattle.lookup.proofs.walk.Tie as tie
 

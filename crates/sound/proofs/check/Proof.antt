@@ -3,11 +3,11 @@ use mathlib.Core.Path.{_≡_, sym, _∙_}
 use mathlib.Core.Bool.{true}
 use denote.Ref.{now}
 use borrow.Author.Tests.{not-true, not-false}
+use borrow.Author.Needs.{needs}
 use Rattle.model.specs.Sound.{roots, used, soundSlots, soundTable, sound}
 use Rattle.table.specs.Views.{frameOf}
 use Rattle.sound.specs.Scan.{marksOf, checkedOf}
 use Rattle.sound.proofs.Pass.{registers-said, tables-said}
-use borrow.Author.Needs.{needs}
 use Rattle.sound.proofs.check.Statement.{statement}
 use Rattle.sound.proofs.check.Tie as tie
 

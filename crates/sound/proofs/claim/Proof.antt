@@ -3,11 +3,11 @@ use mathlib.Core.Path.{_≡_, sym, _∙_}
 use mathlib.Core.Bool.{true}
 use Prim.Native.Nat.{_+_, _≤_, _<_}
 use native.Mathlib.Omega.{arith}
+use borrow.Author.Needs.{needs}
 use Rattle.model.specs.Frame.{lent}
 use Rattle.table.specs.Views.{frameOver}
 use Rattle.table.proofs.Frames.{bounds, lent-in}
 use Rattle.sound.specs.Scan.{claimOf, markOf}
-use borrow.Author.Needs.{needs}
 use Rattle.sound.proofs.claim.Statement.{statement}
 use Rattle.sound.proofs.claim.Tie as tie
 

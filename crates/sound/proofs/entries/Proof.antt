@@ -1,14 +1,13 @@
 -- `sound::entries` meets its contract.
-use Rattle.model.specs.Frame.{blocks}
-use Rattle.model.specs.Layout.{rv64}
-use Rattle.model.specs.Entry.{decode}
-use mathlib.Core.Path.{_≡_, refl, sym, ap, _∙_}
+use mathlib.Core.Path.{_≡_, sym, ap, _∙_}
 use Prim.Native.Nat.{ℕ, _+_, _-_, _≤_, _<_}
 use native.Mathlib.Omega.{arith}
-use lib.ListN.{length, getD}
+use lib.ListN.{length}
 use denote.Ref.{now}
 use borrow.Author.Needs.{needs}
 use borrow.Author.Tests.{not-true, not-false}
+use Rattle.model.specs.Entry.{decode}
+use Rattle.model.specs.Frame.{blocks}
 use Rattle.table.specs.Views.{frameOf}
 use Rattle.sound.specs.Scan.{answer, scanRun, entryStep, blockStep}
 use Rattle.sound.proofs.Steps.{wordStep, words-are-entries, run-start, run-on, run-stopped, run-ended}

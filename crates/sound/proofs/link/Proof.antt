@@ -1,15 +1,14 @@
 -- `sound::link` meets its contract.
-use mathlib.Core.Path.{_≡_, sym, ap, _∙_}
+use mathlib.Core.Path.{ap, _∙_}
 use mathlib.Core.Bool.{Bool}
-use Rattle.model.specs.Numbers.{every}
+use borrow.Author.Needs.{needs}
 use Rattle.model.specs.Layout.{rv64}
 use Rattle.model.specs.Entry as entry
 use Rattle.model.specs.Sound.{cleanPage}
 use Rattle.table.proofs.Runs.{every-cong}
 use Rattle.table.proofs.Frames.{word-at}
-use Rattle.sound.specs.Scan.{answer, andThen, linkStep}
+use Rattle.sound.specs.Scan.{answer, linkStep}
 use Rattle.sound.proofs.Steps.{claimed-lent}
-use borrow.Author.Needs.{needs}
 use Rattle.sound.proofs.link.Statement.{statement}
 use Rattle.sound.proofs.link.Tie as tie
 

@@ -1,9 +1,8 @@
 -- `sound::register` meets its contract.
-use mathlib.Core.Path.{sym, ap, _∙_}
 use borrow.Author.Tests.{eq-eqb, ne-eqb}
+use borrow.Author.Needs.{needs}
 use Rattle.model.specs.Sound.{isOpen}
 use Rattle.sound.specs.Scan.{registerStep, markOf}
-use borrow.Author.Needs.{needs}
 use Rattle.sound.proofs.register.Statement.{statement}
 use Rattle.sound.proofs.register.Tie as tie
 

@@ -1,7 +1,7 @@
 -- `sound::root` meets its contract.
+use borrow.Author.Needs.{needs}
 use Rattle.sound.specs.Scan.{rootStep}
 use Rattle.sound.proofs.Steps.{claimed-lent}
-use borrow.Author.Needs.{needs}
 use Rattle.sound.proofs.root.Statement.{statement}
 use Rattle.sound.proofs.root.Tie as tie
 

@@ -1,8 +1,8 @@
 -- `sound::slot` meets its contract.
 use borrow.Author.Tests.{eq-eqb, ne-eqb}
+use borrow.Author.Needs.{needs}
 use Rattle.model.specs.Sound.{isOpen}
 use Rattle.sound.specs.Scan.{slotStep}
-use borrow.Author.Needs.{needs}
 use Rattle.sound.proofs.slot.Statement.{statement}
 use Rattle.sound.proofs.slot.Tie as tie
 

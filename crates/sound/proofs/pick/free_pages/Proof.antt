@@ -1,9 +1,8 @@
 -- `sound::pick::free_pages` meets its contract.
 use mathlib.Core.List.{headD}
-use Prim.Native.Nat.{ℕ, _+_, _-_, _/_, _≤_, _<_, _^_}
-use mathlib.Core.Path.{_≡_, refl, sym, ap, _∙_}
+use mathlib.Core.Path.{_≡_, sym, ap, _∙_}
+use Prim.Native.Nat.{_-_, _/_, _≤_, _<_, _^_}
 use native.Mathlib.Omega.{arith}
-use lib.ListN.{length}
 use Rattle.table.proofs.Frames.{bounds, few-pages}
 use Rattle.sound.specs.declared.Free.{Free}
 use Rattle.sound.specs.Free.{clearPages, listed}

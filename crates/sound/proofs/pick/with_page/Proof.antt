@@ -1,13 +1,13 @@
 -- `sound::pick::with_page` meets its contract.
-use mathlib.Core.Path.{_≡_, sym, ap, _∙_}
+use mathlib.Core.Path.{_≡_, ap, _∙_}
 use mathlib.Core.List.{List, _∷_, headD}
 use Prim.Native.Nat.{ℕ, _+_}
-use lib.ListN.{length}
 use native.Mathlib.Numerals.{add-one}
+use lib.ListN.{length}
+use borrow.Author.Needs.{needs}
 use Rattle.table.specs.declared.PageNumber.{PageNumber}
 use Rattle.sound.specs.declared.Free.{Free}
 use Rattle.sound.specs.Free.{listed}
-use borrow.Author.Needs.{needs}
 use Rattle.sound.proofs.pick.with_page.Statement.{statement}
 use Rattle.sound.proofs.pick.with_page.Tie as tie
 

@@ -1,15 +1,15 @@
 -- `table::lent::frame_ok` meets its contract.
 use mathlib.Core.Path.{_≡_, refl, sym, _∙_}
-use lib.ListN.{length}
-use Prim.Native.Nat.{ℕ, _+_, _-_, _*_, _/_, _%_, _≤_, _<_, _^_}
 use mathlib.Core.Bool.{Bool, true, false, _&&_}
-use lib.Dec.{eqb, leb}
-use borrow.Author.Tests.{eq-eqb, ne-eqb, eqb-true, eqb-false, le-leb, lt-leb}
+use Prim.Native.Nat.{ℕ, _+_, _-_, _*_, _/_, _%_, _≤_, _^_}
 use native.Mathlib.Omega.{arith}
+use lib.ListN.{length}
+use lib.Dec.{eqb, leb}
 use lib.Pow.{pow-mono}
+use borrow.Author.Tests.{eq-eqb, ne-eqb, eqb-true, eqb-false, le-leb, lt-leb}
+use borrow.Author.Needs.{needs}
 use Rattle.model.specs.Frame.{space, boundsOk, frameOk}
 use Rattle.table.proofs.Tests.{tests}
-use borrow.Author.Needs.{needs}
 use Rattle.table.proofs.lent.frame_ok.Statement.{statement}
 use Rattle.table.proofs.lent.frame_ok.Tie as tie
 

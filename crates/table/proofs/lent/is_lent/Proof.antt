@@ -1,5 +1,4 @@
 -- `table::lent::is_lent` meets its contract.
-use native.Mathlib.Omega.{arith}
 use Rattle.model.specs.Frame.{lent}
 use Rattle.table.proofs.Tests.{tests, within}
 use Rattle.table.proofs.lent.is_lent.Statement.{statement}

@@ -1,5 +1,4 @@
 -- `table::lent::page_start` meets its contract.
-use mathlib.Core.Path.{refl}
 use native.Mathlib.Omega.{arith}
 use Rattle.model.specs.Frame.{indexOf}
 use Rattle.table.proofs.Frames.{lent-in}

@@ -1,6 +1,6 @@
 -- `table::lent::pow2` meets its contract.
-use Prim.Native.Nat.{_^_}
 use mathlib.Core.Path.{_∙_}
+use Prim.Native.Nat.{_^_}
 use native.Mathlib.Nat.{one-mul}
 use native.Mathlib.Omega.{arith}
 use lib.Dec.{lit<}

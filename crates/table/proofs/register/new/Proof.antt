@@ -1,7 +1,7 @@
 -- `table::register::new` meets its contract.
 use mathlib.Core.Path.{refl}
-use Rattle.model.specs.Register.{registerOf}
 use borrow.Author.Needs.{needs}
+use Rattle.model.specs.Register.{registerOf}
 use Rattle.table.proofs.register.new.Statement.{statement}
 use Rattle.table.proofs.register.new.Tie as tie
 

@@ -1,6 +1,6 @@
 -- `table::rights::cause_of` meets its contract.
-use Rattle.model.specs.Access.{originalOf}
 use borrow.Author.Needs.{needs}
+use Rattle.model.specs.Access.{originalOf}
 use Rattle.table.proofs.rights.cause_of.Statement.{statement}
 use Rattle.table.proofs.rights.cause_of.Tie as tie
 

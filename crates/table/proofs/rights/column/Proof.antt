@@ -1,6 +1,6 @@
 -- `table::rights::column` meets its contract.
-use Rattle.model.specs.Access.{columnOf}
 use borrow.Author.Needs.{needs}
+use Rattle.model.specs.Access.{columnOf}
 use Rattle.table.proofs.rights.column.Statement.{statement}
 use Rattle.table.proofs.rights.column.Tie as tie
 

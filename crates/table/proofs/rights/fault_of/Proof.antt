@@ -1,6 +1,6 @@
 -- `table::rights::fault_of` meets its contract.
-use Rattle.model.specs.Access.{causeOf}
 use borrow.Author.Needs.{needs}
+use Rattle.model.specs.Access.{causeOf}
 use Rattle.table.proofs.rights.fault_of.Statement.{statement}
 use Rattle.table.proofs.rights.fault_of.Tie as tie
 

@@ -1,6 +1,6 @@
 -- `table::rights::is_machine` meets its contract.
-use Rattle.model.specs.Lookup.{isMachine}
 use borrow.Author.Needs.{needs}
+use Rattle.model.specs.Lookup.{isMachine}
 use Rattle.table.proofs.rights.is_machine.Statement.{statement}
 use Rattle.table.proofs.rights.is_machine.Tie as tie
 

@@ -1,6 +1,6 @@
 -- `table::rights::may` meets its contract.
-use Rattle.model.specs.Access.{may, mayRows}
 use borrow.Author.Needs.{needs}
+use Rattle.model.specs.Access.{may, mayRows}
 use Rattle.table.proofs.rights.may.Statement.{statement}
 use Rattle.table.proofs.rights.may.Tie as tie
 

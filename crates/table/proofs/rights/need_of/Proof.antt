@@ -1,6 +1,6 @@
 -- `table::rights::need_of` meets its contract.
-use Rattle.model.specs.Access.{needOf}
 use borrow.Author.Needs.{needs}
+use Rattle.model.specs.Access.{needOf}
 use Rattle.table.proofs.rights.need_of.Statement.{statement}
 use Rattle.table.proofs.rights.need_of.Tie as tie
 

@@ -1,7 +1,7 @@
 -- `table::store::store_word` meets its contract.
 use mathlib.Core.Path.{refl}
-use Rattle.table.proofs.Stores.{steps-of-set}
 use borrow.Author.Needs.{needs}
+use Rattle.table.proofs.Stores.{steps-of-set}
 use Rattle.table.proofs.store.store_word.Statement.{statement}
 use Rattle.table.proofs.store.store_word.Tie as tie
 

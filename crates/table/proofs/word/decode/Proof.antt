@@ -1,6 +1,6 @@
 -- `table::word::decode` meets its contract.
-use Rattle.model.specs.Entry.{decode, zeroOf, typeOf, infoOf}
 use borrow.Author.Needs.{needs}
+use Rattle.model.specs.Entry.{decode, zeroOf, typeOf, infoOf}
 use Rattle.table.proofs.Tests.{tests}
 use Rattle.table.proofs.word.decode.Statement.{statement}
 use Rattle.table.proofs.word.decode.Tie as tie

@@ -1,8 +1,7 @@
 -- `table::word::field_found` meets its contract.
-use mathlib.Core.Path.{sym, _∙_}
 use borrow.Author.Tests.{lt-ltb, le-ltb}
-use Rattle.model.specs.Entry.{fieldOf}
 use borrow.Author.Needs.{needs}
+use Rattle.model.specs.Entry.{fieldOf}
 use Rattle.table.proofs.word.field_found.Statement.{statement}
 use Rattle.table.proofs.word.field_found.Tie as tie
 

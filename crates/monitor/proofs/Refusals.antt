@@ -1,0 +1,82 @@
+-- What opening and closing leave, by the tests in their order: each law assumes that the tests before it were passed.
+use mathlib.Core.Path.{_≡_, refl}
+use mathlib.Core.Bool.{true, false}
+use mathlib.Core.List.{List, headD}
+use Prim.Native.Nat.{ℕ}
+use lib.Dec.{eqb}
+use lib.ListN.{length, set}
+use Rattle.model.specs.Layout.{rv64}
+use Rattle.model.specs.Register.{sdidOf, registerOf}
+use Rattle.model.specs.Frame.{frameOk, indexOf}
+use Rattle.model.specs.Frame as frame
+use Rattle.model.specs.Sound.{Slot, register, emptySlot, roots, sdids, sound, freePages}
+use Rattle.model.specs.Fence.{noFence, domainFence}
+use Rattle.model.specs.Calls.{opened, closed, firstMet, slotAt, refuse, openRefusal, openAt, openSlot, closeRefusal, closeSlot}
+use Rattle.table.specs.declared.Frame.{Frame}
+use Rattle.table.specs.Views.{frameOf}
+use Rattle.monitor.specs.Zeroed.{zeroed}
+use Rattle.monitor.specs.Slots.{notOpen, notEmpty, badSdid}
+
+module _ (f : Frame) (m : List ℕ) (slots : List Slot) (s : ℕ) where
+  abbrev F : frame.Frame
+  F = frameOf f m
+
+  -- ---- open
+
+  module _ (sdid : ℕ) where
+    pub opened-at : (root : ℕ)
+        → openAt F m slots root s sdid
+        ≡ record { reply = opened; memory = zeroed m (indexOf F root 0); slots = set slots s (registerOf rv64 sdid root); fence = noFence }
+    unfolding openAt zeroed
+    opened-at root = refl
+
+    pub open-frame : frameOk F m ≡ false → openSlot F m slots s sdid ≡ refuse F m slots 1
+    unfolding openSlot openRefusal firstMet
+    open-frame h = rw h
+
+    module _ (one : frameOk F m ≡ true) where
+      pub open-unsound : sound F m slots ≡ false → openSlot F m slots s sdid ≡ refuse F m slots 3
+      unfolding openSlot openRefusal firstMet
+      open-unsound h = rw (one, h)
+
+      module _ (three : sound F m slots ≡ true) where
+        pub open-slot : notEmpty slots s ≡ true → openSlot F m slots s sdid ≡ refuse F m slots 4
+        unfolding openSlot openRefusal firstMet
+        open-slot h = rw (one, three, h)
+
+        module _ (four : notEmpty slots s ≡ false) where
+          pub open-sdid : badSdid slots sdid ≡ true → openSlot F m slots s sdid ≡ refuse F m slots 8
+          unfolding openSlot openRefusal firstMet sdids
+          open-sdid h = rw (one, three, four, h)
+
+          module _ (eight : badSdid slots sdid ≡ false) where
+            pub open-no-room : eqb (length (freePages F m (roots F slots))) 0 ≡ true → openSlot F m slots s sdid ≡ refuse F m slots 7
+            unfolding openSlot openRefusal firstMet sdids
+            open-no-room h = rw (one, three, four, eight, h)
+
+            pub open-done : eqb (length (freePages F m (roots F slots))) 0 ≡ false
+                → openSlot F m slots s sdid ≡ openAt F m slots (headD (freePages F m (roots F slots)) 0) s sdid
+            unfolding openSlot openRefusal firstMet sdids
+            open-done h = rw (one, three, four, eight, h)
+
+  -- ---- close
+
+  pub close-frame : frameOk F m ≡ false → closeSlot F m slots s ≡ refuse F m slots 1
+  unfolding closeSlot closeRefusal firstMet
+  close-frame h = rw h
+
+  module _ (one : frameOk F m ≡ true) where
+    pub close-unsound : sound F m slots ≡ false → closeSlot F m slots s ≡ refuse F m slots 3
+    unfolding closeSlot closeRefusal firstMet
+    close-unsound h = rw (one, h)
+
+    module _ (three : sound F m slots ≡ true) where
+      pub close-slot : notOpen slots s ≡ true → closeSlot F m slots s ≡ refuse F m slots 4
+      unfolding closeSlot closeRefusal firstMet
+      close-slot h = rw (one, three, h)
+
+      pub close-done : notOpen slots s ≡ false
+          → closeSlot F m slots s
+          ≡ record { reply = closed; memory = m; slots = set slots s emptySlot; fence = domainFence (sdidOf (F .layout) (register (slotAt slots s))) }
+      unfolding closeSlot closeRefusal firstMet
+      close-done h = rw (one, three, h)

@@ -1,0 +1,20 @@
+-- `monitor::slots::holds` meets its contract.
+use borrow.Author.Tests.{eq-eqb, ne-eqb}
+use borrow.Author.Needs.{needs}
+use Rattle.model.specs.Sound.{isOpen}
+use Rattle.monitor.proofs.slots.holds.Statement.{statement}
+use Rattle.monitor.proofs.slots.holds.Tie as tie
+
+returns : tie.Need-returns
+unfolding isOpen
+returns c = rw (eq-eqb _ _ (c .if1 .taken))
+
+sdid-requires : tie.Need-sdid-requires
+sdid-requires c κs = search needs
+
+returns-2 : tie.Need-returns-2
+unfolding isOpen
+returns-2 c = rw (ne-eqb _ _ (c .before .before .before .if1 .left), c .before .before .sdid .ensures .0)
+
+pub holds-spec : {M : Type 1} → statement M
+holds-spec = tie.close (tie.spec returns sdid-requires returns-2)

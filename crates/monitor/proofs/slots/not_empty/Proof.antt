@@ -1,0 +1,23 @@
+-- `monitor::slots::not_empty` meets its contract.
+use borrow.Author.Tests.{lt-ltb, le-ltb}
+use borrow.Author.Needs.{needs}
+use Rattle.model.specs.Sound.{isOpen}
+use Rattle.model.specs.Calls.{slotAt}
+use Rattle.monitor.proofs.slots.not_empty.Statement.{statement}
+use Rattle.monitor.proofs.slots.not_empty.Tie as tie
+
+returns : tie.Need-returns
+returns c = rw (le-ltb _ _ (c .if1 .taken))
+
+mul-result : tie.Need-mul-result
+mul-result c = search needs
+
+array-read-result : tie.Need-array-read-result
+array-read-result c = search needs
+
+returns-2 : tie.Need-returns-2
+unfolding isOpen slotAt
+returns-2 c = rw (lt-ltb _ _ (c .if1 .left))
+
+pub not-empty-spec : {M : Type 1} → statement M
+not-empty-spec = tie.close (tie.spec returns mul-result array-read-result returns-2)

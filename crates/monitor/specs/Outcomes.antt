@@ -1,0 +1,23 @@
+-- What a call leaves, as the model's: its reply and fence, the slots, and beside them the memory.
+use mathlib.Core.List.{List}
+use Prim.Native.Nat.{ℕ}
+use Rattle.model.specs.Calls as calls
+use Rattle.table.specs.declared.Refusal.{Refusal}
+use Rattle.table.specs.declared.Fence.the-variants.{Nothing}
+use Rattle.table.specs.Views.{refusalNumber, fenceOf}
+use Rattle.monitor.specs.declared.Reply.{Reply}
+use Rattle.monitor.specs.declared.Reply.the-variants.{Refused, Opened, Closed}
+use Rattle.monitor.specs.declared.Outcome.{Outcome}
+
+-- a refusal by its number
+abbrev pub replyOf : Reply → calls.Reply
+replyOf (Refused r) = calls.refusedWith (refusalNumber r)
+replyOf Opened = calls.opened
+replyOf Closed = calls.closed
+
+abbrev pub outcomeOf : Outcome → List ℕ → calls.Outcome
+outcomeOf o m = record { reply = replyOf (o .reply); memory = m; slots = o .slots; fence = fenceOf (o .fence) }
+
+-- "A refusal returns its number, changes .. no slot, and asks for no fence."
+abbrev pub refusedWith : Refusal → List ℕ → Outcome
+refusedWith r slots = record { reply = Refused r; slots = slots; fence = Nothing }

@@ -1,0 +1,9 @@
+-- A page of zeroes.
+use mathlib.Core.List.{List}
+use Prim.Native.Nat.{ℕ}
+use lib.ListN.{replicate}
+use lib.Seq.{sets}
+
+-- the 512 words from at are zero
+unfoldable pub zeroed : List ℕ → ℕ → List ℕ
+zeroed m at = sets m at (replicate 512 0)

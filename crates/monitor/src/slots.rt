@@ -1,0 +1,60 @@
+// What a call asks of the slot that it names, and which SDIDs are in use.
+use table::Sdid;
+use table::register;
+ghost use mathlib.Core.Path.{_≡_};
+ghost use Rattle.model.specs.Numbers.{member};
+ghost use Rattle.monitor.specs.Slots as spec;
+
+// "Slot above 7; empty for close or edit."
+pub fn not_open(slots: [u64; 8], slot: u64) -> bool
+    ensures { λ r. ⌜ r ≡ spec.notOpen slots slot ⌝ }
+{
+    if 8 <= slot {
+        return true;
+    }
+    let at = slot as usize;
+    slots[at] == 0
+}
+
+// "Slot above 7; .. in use for open."
+pub fn not_empty(slots: [u64; 8], slot: u64) -> bool
+    ensures { λ r. ⌜ r ≡ spec.notEmpty slots slot ⌝ }
+{
+    if 8 <= slot {
+        return true;
+    }
+    let at = slot as usize;
+    slots[at] != 0
+}
+
+// A slot is open with this SDID. SDID 0 is held like any other: what says that a slot is empty is its whole register.
+fn holds(slot: u64, sdid: Sdid) -> bool
+    ensures { λ r. ⌜ r ≡ spec.holds slot (sdid .0) ⌝ }
+{
+    if slot == 0 {
+        return false;
+    }
+    sdid.0 == register::sdid(slot).0
+}
+
+fn held(slots: [u64; 8], sdid: Sdid) -> bool
+    ensures { λ r. ⌜ r ≡ member (sdid .0) (spec.openSdids slots) ⌝ }
+{
+    for i in 0..8usize {
+        if holds(slots[i], sdid) {
+            return true;
+        }
+    }
+    false
+}
+
+// "SDID above 63 or held by another open slot."
+pub fn bad_sdid(slots: [u64; 8], sdid: Sdid) -> bool
+    ensures { λ r. ⌜ r ≡ spec.badSdid slots (sdid .0) ⌝ }
+{
+    let number = sdid.0;
+    if 63 < number {
+        return true;
+    }
+    held(slots, sdid)
+}
