@@ -15,6 +15,7 @@ use lib.Seq.{drop-cons, getD-drop}
 use borrow.Author.Tests.{eqb-true, eqb-false, lt-ltb}
 use Rattle.table.specs.declared.Frame as code
 use Rattle.forms.specs.declared.Gib as gibs′
+use Rattle.edit.proofs.Answers.{list-is}
 use Rattle.edit.proofs.Blocks.{frame-same, changed-same, l1-plain}
 use Rattle.edit.proofs.Runs.{run-none, run-on, run-off, run-whole}
 use Rattle.edit.specs.Kinds.{Plain, Encodes, storesAt, Fresh, Accepted, wholeList}
@@ -169,6 +170,15 @@ module _ (f : code.Frame) (m0 : List ℕ) (q : Request) (root : ℕ) (free : Lis
         room = subst (λ (r : ℕ). newPages F m0 r (firstGib q * 32) (forms F m0 q r) ≤ length free) (sym (a .isRoot)) (omega (arith, two, k .room, long));
         few = omega (arith, long);
       }
+
+  -- the list that the code makes is the model's
+  pub accepted-list : (a : Accepted F m0 q root free) → wholeList F m0 q root free ≡ storeList F m0 (a .slots) q
+  accepted-list a =
+      let k : Accept F (a .slots) q m0 = to-accept F (a .slots) q m0 (a .none) in
+      let E : Edit = record { F = F; lawful = rv64-lawful; slots = a .slots; q = q; low = a .small } in
+      ap₂ (λ (r : ℕ) (fr : List ℕ). wholeList F m0 q r fr) (a .isRoot) (a .areFree)
+      ∙ list-is F m0 (a .slots) q
+      (two-pages F (ok-of E m0 k) q m0 (rootOf F (a .slots) q) (a .small) (range-of F (a .slots) q m0 k) (roots F (a .slots)) (sound-of E m0 k) (root-in F (a .slots) q m0 k) (a .typed))
 
   pub root-lent : Accepted F m0 q root free → lent F root ≡ true
   unfolding entryPage

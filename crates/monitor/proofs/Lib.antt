@@ -1,6 +1,12 @@
---   Sdids      whether an SDID is held, slot by slot
---   Zeroes     a page zeroed word by word
---   Refusals   what opening and closing leave, by the tests in their order
+--   Sdids          whether an SDID is held, slot by slot
+--   Zeroes         a page zeroed word by word
+--   Ranges         the range of an edit
+--   SlotRoots      the root of an open slot of a sound table
+--   Refusals       what opening and closing leave, by the tests in their order
+--   EditRefusals   what an edit leaves, by the tests in their order
 pub mod Sdids
 pub mod Zeroes
+pub mod Ranges
+pub mod SlotRoots
 pub mod Refusals
+pub mod EditRefusals

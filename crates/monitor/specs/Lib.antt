@@ -1,6 +1,8 @@
 --   Outcomes   what a call leaves, as the model's
+--   Edits      what an edit asks
 --   Slots      the slots: SDIDs in use
 --   Zeroed     a page of zeroes
 pub mod Outcomes
+pub mod Edits
 pub mod Slots
 pub mod Zeroed

@@ -6,7 +6,7 @@ use Rattle.table.specs.declared.Refusal.{Refusal}
 use Rattle.table.specs.declared.Fence.the-variants.{Nothing}
 use Rattle.table.specs.Views.{refusalNumber, fenceOf}
 use Rattle.monitor.specs.declared.Reply.{Reply}
-use Rattle.monitor.specs.declared.Reply.the-variants.{Refused, Opened, Closed}
+use Rattle.monitor.specs.declared.Reply.the-variants.{Refused, Opened, Closed, Edited}
 use Rattle.monitor.specs.declared.Outcome.{Outcome}
 
 -- a refusal by its number
@@ -14,6 +14,7 @@ abbrev pub replyOf : Reply → calls.Reply
 replyOf (Refused r) = calls.refusedWith (refusalNumber r)
 replyOf Opened = calls.opened
 replyOf Closed = calls.closed
+replyOf (Edited count all) = calls.edited count all
 
 abbrev pub outcomeOf : Outcome → List ℕ → calls.Outcome
 outcomeOf o m = record { reply = replyOf (o .reply); memory = m; slots = o .slots; fence = fenceOf (o .fence) }

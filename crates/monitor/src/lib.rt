@@ -1,33 +1,47 @@
 // The outward calls. None has a `requires`: whatever is handed in gets an answer, and a refusal changes nothing.
 mod page;
+mod range;
 mod slots;
 
 use crate::page::zero_page;
+use crate::range::bad_range;
+use crate::range::on_lent_pages;
 use crate::slots::bad_sdid;
 use crate::slots::not_empty;
 use crate::slots::not_open;
+use edit::make;
+use forms::Request;
+use forms::gibs::new_pages;
+use sound::Free;
 use sound::check;
 use sound::pick::free_pages;
+use table::Address;
 use table::Fence;
 use table::Frame;
 use table::PageNumber;
+use table::Permission;
 use table::Refusal;
 use table::Sdid;
 use table::lent;
 use table::register;
+use table::rights;
 ghost use mathlib.Core.Path.{_≡_};
 ghost use mathlib.Core.Bool.{true};
 ghost use Prim.Native.Nat.{_<_};
 ghost use lib.ListN.{length};
 ghost use Rattle.model.specs.Frame as frame;
 ghost use Rattle.model.specs.Calls as calls;
-ghost use Rattle.table.specs.Views.{frameOf};
+ghost use Rattle.table.specs.Views.{frameOf, permissionNumber};
+ghost use Rattle.forms.specs.Kinds.{requestOf};
 ghost use Rattle.monitor.specs.Outcomes.{outcomeOf, refusedWith};
+ghost use Rattle.monitor.specs.Edits.{asked, Ready};
 
 pub enum Reply {
     Refused(Refusal),
     Opened,
     Closed,
+    // How many stores were made, and whether that was all.
+    Edited(u64, bool),
 }
 
 // What a call leaves, beside the lent memory.
@@ -116,4 +130,75 @@ pub fn close(f: Frame, words: &[u64], slots: [u64; 8], slot: u64) -> Outcome
         slots: after,
         fence: Fence::Domain(sdid),
     }
+}
+
+// The stores of an edit that no refusal fits, and what they leave.
+fn edit_made(
+    f: Frame,
+    words: &mut [u64],
+    slots: [u64; 8],
+    q: Request,
+    free: Free,
+    limit: u64,
+) -> Outcome
+    requires { ⌜ Ready (frameOf f (now words)) (now words) slots (requestOf q) free ⌝ }
+    ensures { λ r. ⌜ outcomeOf r (now (words .exit))
+        ≡ calls.made (frameOf f (now (words .entry))) (now (words .entry)) slots (requestOf q)
+        (calls.storeList (frameOf f (now (words .entry))) (now (words .entry)) slots (requestOf q)) limit ⌝ }
+{
+    let at = q.slot as usize;
+    let register = slots[at];
+    let root = register::ppn(register);
+    let sdid = register::sdid(register);
+    let made = make(f, words, q, root, sdid, free, limit);
+    let fence = made.fence;
+    Outcome {
+        reply: Reply::Edited(made.count, made.all),
+        slots: slots,
+        fence: fence,
+    }
+}
+
+// "An edit names a slot, start, length, permission (one of the four) and a limit on stores." Refusals 1, 3, 4, 5, 6, 7, in this order.
+pub fn edit(
+    f: Frame,
+    words: &mut [u64],
+    slots: [u64; 8],
+    slot: u64,
+    start: Address,
+    length: u64,
+    permission: Permission,
+    limit: u64,
+) -> Outcome
+    ensures { λ r. ⌜ outcomeOf r (now (words .exit))
+        ≡ calls.editSlot (frameOf f (now (words .entry))) (now (words .entry)) slots (asked slot (start .0) length (permissionNumber permission)) limit ⌝ }
+{
+    if !lent::frame_ok(f, words) {
+        return refused(Refusal::Frame, slots);
+    }
+    let checked = check(f, words, slots);
+    if !checked.sound {
+        return refused(Refusal::NotSound, slots);
+    }
+    if not_open(slots, slot) {
+        return refused(Refusal::Slot, slots);
+    }
+    let q = Request {
+        slot: slot,
+        start: start,
+        size: length,
+        permission: rights::bits(permission),
+    };
+    if bad_range(f, words.len(), q) {
+        return refused(Refusal::Range, slots);
+    }
+    if on_lent_pages(f, words.len(), q) {
+        return refused(Refusal::LentPages, slots);
+    }
+    let free = free_pages(f, words.len(), &checked.used);
+    let root = register::ppn(slots[slot as usize]);
+    if free.count < new_pages(f, words, q, root) {
+        return refused(Refusal::NoRoom, slots);
+    }
+    edit_made(f, words, slots, q, free, limit)
 }

@@ -32,7 +32,8 @@ pub fn permission_of(bits: u64) -> Permission
     }
 }
 
-fn row(p: Permission) -> usize
+// Its two bits, as an entry holds them.
+pub fn bits(p: Permission) -> u64
     ensures { λ r. ⌜ (r ≡ permissionNumber p) × (r < 4) ⌝ }
 {
     match p {
@@ -41,6 +42,12 @@ fn row(p: Permission) -> usize
         Permission::Rw => 2,
         Permission::Rwx => 3,
     }
+}
+
+fn row(p: Permission) -> usize
+    ensures { λ r. ⌜ (r ≡ permissionNumber p) × (r < 4) ⌝ }
+{
+    bits(p) as usize
 }
 
 fn column(n: Need) -> usize

@@ -1,0 +1,83 @@
+-- What an edit leaves, by the tests in their order: each law assumes that the tests before it were passed.
+use mathlib.Core.Path.{_≡_, refl, sym, ap, _∙_}
+use mathlib.Core.Bool.{Bool, true, false, not, _&&_}
+use mathlib.Core.List.{List, [], _∷_, headD, tail}
+use Prim.Native.Nat.{ℕ, zero, suc, _*_, _<_}
+use lib.Dec.{eqb, ltb}
+use lib.ListN.{length, take}
+use Rattle.model.specs.Layout.{gibBlocks}
+use Rattle.model.specs.Register.{sdidOf}
+use Rattle.model.specs.Frame.{Frame, frameOk}
+use Rattle.model.specs.Sound.{Slot, roots, sound, freePages}
+use Rattle.model.specs.Forms.{Request, forms, firstGib}
+use Rattle.model.specs.Stores.{Store, newPages}
+use Rattle.model.specs.Calls.{Outcome, edited, firstMet, registerFor, rootOf, refuse, badRange, meetsLent, finished, editRefusalWith, editRefusal, storeList, made, editWith, editSlot}
+use Rattle.table.specs.Views.{fenceOf}
+use Rattle.sound.specs.Free.{listed}
+use Rattle.edit.specs.declared.Made.{Made}
+use Rattle.edit.specs.Kinds.{freeList}
+use Rattle.edit.specs.Done.{IsMade}
+use Rattle.monitor.specs.Slots.{notOpen}
+use Rattle.monitor.specs.Outcomes.{outcomeOf}
+use Rattle.monitor.specs.declared.Outcome as code
+use Rattle.monitor.specs.declared.Reply.the-variants.{Edited}
+
+module _ (F : Frame) (m : List ℕ) (slots : List Slot) (q : Request) where
+  -- the whole edit needs more new pages than are free
+  abbrev pub noRoom : Bool
+  noRoom = ltb (length (freePages F m (roots F slots))) (newPages F m (rootOf F slots q) (firstGib q * gibBlocks) (forms F m q (rootOf F slots q)))
+
+  module _ (limit : ℕ) where
+    pub edit-frame : frameOk F m ≡ false → editSlot F m slots q limit ≡ refuse F m slots 1
+    unfolding editSlot editWith editRefusalWith firstMet
+    edit-frame h = rw h
+
+    module _ (one : frameOk F m ≡ true) where
+      pub edit-unsound : sound F m slots ≡ false → editSlot F m slots q limit ≡ refuse F m slots 3
+      unfolding editSlot editWith editRefusalWith firstMet
+      edit-unsound h = rw (one, h)
+
+      module _ (three : sound F m slots ≡ true) where
+        pub edit-slot : notOpen slots (q .slot) ≡ true → editSlot F m slots q limit ≡ refuse F m slots 4
+        unfolding editSlot editWith editRefusalWith firstMet
+        edit-slot h = rw (one, three, h)
+
+        module _ (four : notOpen slots (q .slot) ≡ false) where
+          pub edit-range : badRange F q ≡ true → editSlot F m slots q limit ≡ refuse F m slots 5
+          unfolding editSlot editWith editRefusalWith firstMet
+          edit-range h = rw (one, three, four, h)
+
+          module _ (five : badRange F q ≡ false) where
+            pub edit-lent : (not (eqb (q .permission) 0) && meetsLent F q) ≡ true → editSlot F m slots q limit ≡ refuse F m slots 6
+            unfolding editSlot editWith editRefusalWith firstMet
+            edit-lent h = rw (one, three, four, five, h)
+
+            module _ (six : (not (eqb (q .permission) 0) && meetsLent F q) ≡ false) where
+              pub edit-no-room : noRoom ≡ true → editSlot F m slots q limit ≡ refuse F m slots 7
+              unfolding editSlot editWith editRefusalWith firstMet finished
+              edit-no-room h = rw (one, three, four, five, six, h)
+
+              pub edit-accepted : noRoom ≡ false → editRefusal F m slots q ≡ 0
+              unfolding editRefusal editRefusalWith firstMet finished
+              edit-accepted h = rw (one, three, four, five, six, h)
+
+    pub edit-done : editRefusal F m slots q ≡ 0 → editSlot F m slots q limit ≡ made F m slots q (storeList F m slots q) limit
+    unfolding editSlot editWith editRefusal storeList
+    edit-done h = rw h
+
+    -- an answer that says what was made is the model's
+    pub made-is : (list : List Store) (m′ : List ℕ) (r : Made) → IsMade F q (rootOf F slots q) (sdidOf (F .layout) (registerFor slots q)) list limit m m′ r
+        → outcomeOf (record { reply = Edited (r .count) (r .all); slots = slots; fence = r .fence }) m′ ≡ made F m slots q list limit
+    unfolding made
+    made-is list m′ r k = λ i. record { reply = edited (k .count i) (k .all i); memory = k .memory i; slots = slots; fence = k .asked i }
+
+-- the two lowest of the free pages are the front of their list
+take-nil : (n : ℕ) → take {A = ℕ} n [] ≡ []
+take-nil zero = refl
+take-nil (suc n) = refl
+
+pub listed-front : (pages : List ℕ) → freeList (listed pages) ≡ take 2 pages
+unfolding headD
+listed-front [] = refl
+listed-front (x ∷ []) = refl
+listed-front (x ∷ y ∷ rest) = ap (λ (l : List ℕ). x ∷ y ∷ l) (take-nil (length rest))

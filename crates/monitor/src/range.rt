@@ -1,0 +1,51 @@
+// What an edit asks of its range.
+use forms::Request;
+use table::Frame;
+use table::lent::pow2;
+ghost use mathlib.Core.Path.{_≡_};
+ghost use mathlib.Core.Bool.{true, false, not, _&&_};
+ghost use lib.Dec.{eqb};
+ghost use Rattle.model.specs.Frame.{boundsOk};
+ghost use Rattle.model.specs.Calls.{badRange, meetsLent};
+ghost use Rattle.table.specs.Views.{frameOver};
+ghost use Rattle.forms.specs.Kinds.{requestOf};
+
+// "Length 0, start or length not a multiple of 4,096, or start + length (no wrap) above 2^PAW."
+pub fn bad_range(f: Frame, n: usize, q: Request) -> bool
+    requires { ⌜ boundsOk (frameOver f n) ≡ true ⌝ }
+    ensures { λ r. ⌜ r ≡ badRange (frameOver f n) (requestOf q) ⌝ }
+{
+    let start = q.start.0;
+    let size = q.size;
+    if size == 0 {
+        return true;
+    }
+    if start % 4096 != 0 {
+        return true;
+    }
+    if size % 4096 != 0 {
+        return true;
+    }
+    let end = pow2(f.paw);
+    if end < start {
+        return true;
+    }
+    end - start < size
+}
+
+// "Permission not none and the range meets the lent pages."
+pub fn on_lent_pages(f: Frame, n: usize, q: Request) -> bool
+    requires { ⌜ (boundsOk (frameOver f n) ≡ true) × (badRange (frameOver f n) (requestOf q) ≡ false) ⌝ }
+    ensures { λ r. ⌜ r ≡ (not (eqb (q .permission) 0) && meetsLent (frameOver f n) (requestOf q)) ⌝ }
+{
+    let start = q.start.0;
+    let pages = (n / 512) as u64;
+    let first = f.first.0;
+    if q.permission == 0 {
+        return false;
+    }
+    if (first + pages) * 4096 <= start {
+        return false;
+    }
+    first * 4096 < start + q.size
+}
