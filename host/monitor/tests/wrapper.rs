@@ -18,7 +18,7 @@ impl Canned {
     }
 }
 
-impl Interface for &Canned {
+impl Interface for Canned {
     fn lookup(&self, paw: u64, first: u64, words: &[u64], mmpt: u64, privilege: u64, kind: u64, address: u64) -> u64 {
         self.keep(&[paw, first, words.len() as u64, mmpt, privilege, kind, address])
     }

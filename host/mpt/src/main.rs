@@ -1,1 +1,37 @@
-fn main() {}
+//! `mpt`: runs, tests, measures and draws memory protection tables.
+
+mod cases;
+mod command;
+mod image;
+mod options;
+mod programs;
+mod run;
+mod session;
+
+use options::Options;
+use std::process::ExitCode;
+
+fn main() -> ExitCode {
+    let mut words = std::env::args().skip(1);
+    let name = words.next().unwrap_or_default();
+    let options = Options::new(words.collect());
+    let status = match name.as_str() {
+        "run" => run::main(options),
+        "cases" => cases::main(options),
+        "help" | "--help" | "-h" => help(),
+        "" => Err("what shall be done? See `mpt help`".to_string()),
+        other => Err(format!("no command `{other}`; see `mpt help`")),
+    };
+    match status {
+        Ok(status) => ExitCode::from(status),
+        Err(error) => {
+            eprintln!("mpt: {error}");
+            ExitCode::from(run::WRONG)
+        }
+    }
+}
+
+fn help() -> Result<u8, String> {
+    print!("{}", include_str!("help.txt"));
+    Ok(0)
+}
