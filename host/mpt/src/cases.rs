@@ -88,6 +88,7 @@ const CASES: [Case; 11] = [
         name: "H",
         pages: 16,
         steps: &[
+            ("edit 0 0x40000000 0x1000 rw 1536", "edited 544 all fence domain 5"),
             ("edit 0 0x40000000 0x40000000 rw 1536", "edited 32 all fence domain 5"),
             ("edit 0 0x40200000 0x200000 none 1536", "edited 32 all fence domain 5"),
             ("peek 32", "00006000aaaaaaa2"),

@@ -1,6 +1,7 @@
 //! The language of `mpt run`: one command a line.
 
 use mpt_monitor::{Address, Edit, Kind, PageNumber, Permission, Privilege, Register, Sdid, Slot};
+use std::fmt;
 use std::str::SplitWhitespace;
 
 #[derive(Clone, Debug, PartialEq, Eq)]
@@ -192,13 +193,35 @@ pub fn number(text: &str) -> Result<u64, String> {
     u64::from_str_radix(digits, radix).map_err(|_| "is above 2^64 - 1".to_string())
 }
 
-/// The name of a kind, as `lookup` takes it.
-pub fn kind_name(kind: Kind) -> &'static str {
-    KINDS[kind.code() as usize]
+/// A command as a line that can be read again.
+impl fmt::Display for Command {
+    fn fmt(&self, f: &mut fmt::Formatter) -> fmt::Result {
+        match self {
+            Command::Frame { paw, first, pages, extra: 0 } => write!(f, "frame {paw} {:#x} {pages}", first.0),
+            Command::Frame { paw, first, pages, extra } => write!(f, "frame {paw} {:#x} {pages} {extra}", first.0),
+            Command::Poke { index, word } => write!(f, "poke {index} {word:#x}"),
+            Command::SetSlot { index, register } => write!(f, "slot {index} {:#x}", register.0),
+            Command::Peek { index, count } => write!(f, "peek {index} {count}"),
+            Command::Slots => f.write_str("slots"),
+            Command::Open { slot, sdid } => write!(f, "open {} {}", slot.0, sdid.0),
+            Command::Close { slot } => write!(f, "close {}", slot.0),
+            Command::Edit(Edit { slot, start, length, permission, limit }) => {
+                write!(f, "edit {} {:#x} {length:#x} {} {limit}", slot.0, start.0, permission.name())
+            }
+            Command::Lookup { register, privilege, kind, address } => {
+                let (privilege, kind) = (privilege_letter(*privilege), KINDS[kind.code() as usize]);
+                write!(f, "lookup {:#x} {privilege} {kind} {:#x}", register.0, address.0)
+            }
+            Command::Free => f.write_str("free"),
+            Command::Sum => f.write_str("sum"),
+            Command::Save(file) => write!(f, "save {file}"),
+            Command::Load(file) => write!(f, "load {file}"),
+        }
+    }
 }
 
 /// The letter of a privilege, as `lookup` takes it.
-pub fn privilege_letter(privilege: Privilege) -> char {
+fn privilege_letter(privilege: Privilege) -> char {
     match privilege {
         Privilege::User => 'u',
         Privilege::Supervisor => 's',
@@ -232,6 +255,26 @@ mod tests {
         let lookup = Command::Lookup { register: Register(1), privilege: Privilege::User, kind, address: Address(2) };
         assert_eq!(parse("lookup 0x1 u walk-store 2"), Ok(Some(lookup)));
         assert_eq!(parse("peek 4"), Ok(Some(Command::Peek { index: 4, count: 1 })));
+    }
+
+    #[test]
+    fn a_command_is_written_as_it_is_read() {
+        let lines = [
+            "frame 32 0x80000 16",
+            "frame 0 0x0 2 511",
+            "poke 7 0xffffffffffffffff",
+            "slot 7 0x1",
+            "peek 3 4",
+            "open 9 64",
+            "close 18446744073709551615",
+            "edit 0 0x1000 0x2000 rwx 0",
+            "lookup 0x5 s update-fetch 0x6",
+            "lookup 0x5 m walk-load 0x6",
+            "save a b",
+        ];
+        for line in lines {
+            assert_eq!(parse(line).unwrap().unwrap().to_string(), line);
+        }
     }
 
     #[test]

@@ -6,7 +6,9 @@ mod image;
 mod options;
 mod programs;
 mod run;
+mod random;
 mod session;
+mod test;
 
 use options::Options;
 use std::process::ExitCode;
@@ -18,6 +20,7 @@ fn main() -> ExitCode {
     let status = match name.as_str() {
         "run" => run::main(options),
         "cases" => cases::main(options),
+        "test" => test::main(options),
         "help" | "--help" | "-h" => help(),
         "" => Err("what shall be done? See `mpt help`".to_string()),
         other => Err(format!("no command `{other}`; see `mpt help`")),

@@ -7,10 +7,12 @@ use mpt_monitor::{Answer, Edited, Fence, Frame, Refusal, Table, PAGE_WORDS, SLOT
 use std::fs;
 
 /// One or more programs, each with its own table.
+#[derive(Clone)]
 pub struct Session {
     sides: Vec<Side>,
 }
 
+#[derive(Clone)]
 struct Side {
     program: Program,
     table: Option<Table>,

@@ -24,7 +24,7 @@ mod walk;
 pub use domain::{close, open};
 pub use edit::{edit, store_list, Asked, Edited, Fence, Store};
 pub use frame::{Frame, Register};
-pub use map::gib_map;
+pub use map::{block_map, gib_map};
 pub use sound::{free_pages, sound, used_pages};
 pub use walk::{lookup, permission_at, Access, Looked, Original, Privilege, Role};
 

@@ -26,18 +26,29 @@ pub fn gib_map(frame: Frame, words: &[u64], root: u64, gib: usize) -> Vec<Permis
     let root = frame.page(words, root).expect("a sound table's roots are lent");
     let mut map = Vec::with_capacity(GIB_PAGES);
     for &entry in &root[gib * GIB_BLOCKS..(gib + 1) * GIB_BLOCKS] {
-        match L2::from_word(entry).expect("a sound table's entries keep the rules") {
-            L2::Whole(permission) => map.resize(map.len() + BLOCK_PAGES, permission),
-            L2::Pieces(each) => {
-                each.iter().for_each(|&permission| map.resize(map.len() + PIECE_PAGES, permission));
-            }
-            L2::Pages(page) => {
-                let page = frame.page(words, page).expect("a sound table's L1 pages are lent");
-                page.iter().for_each(|&entry| push_fields(&mut map, entry));
-            }
-        }
+        push_block(frame, words, entry, &mut map);
     }
     map
+}
+
+/// The permission of each page of the block that an L2 entry of a sound table speaks for.
+pub fn block_map(frame: Frame, words: &[u64], entry: u64) -> Vec<Permission> {
+    let mut map = Vec::with_capacity(BLOCK_PAGES);
+    push_block(frame, words, entry, &mut map);
+    map
+}
+
+fn push_block(frame: Frame, words: &[u64], entry: u64, map: &mut Vec<Permission>) {
+    match L2::from_word(entry).expect("a sound table's entries keep the rules") {
+        L2::Whole(permission) => map.resize(map.len() + BLOCK_PAGES, permission),
+        L2::Pieces(each) => {
+            each.iter().for_each(|&permission| map.resize(map.len() + PIECE_PAGES, permission));
+        }
+        L2::Pages(page) => {
+            let page = frame.page(words, page).expect("a sound table's L1 pages are lent");
+            page.iter().for_each(|&entry| push_fields(map, entry));
+        }
+    }
 }
 
 fn push_fields(map: &mut Vec<Permission>, entry: u64) {
