@@ -3,6 +3,7 @@
 mod cases;
 mod command;
 mod image;
+mod map;
 mod options;
 mod programs;
 mod run;
@@ -20,6 +21,7 @@ fn main() -> ExitCode {
     let status = match name.as_str() {
         "run" => run::main(options),
         "cases" => cases::main(options),
+        "map" => map::main(options),
         "test" => test::main(options),
         "help" | "--help" | "-h" => help(),
         "" => Err("what shall be done? See `mpt help`".to_string()),

@@ -18,14 +18,19 @@ impl Options {
         found.map(|at| self.words.remove(at)).is_some()
     }
 
+    /// Takes a flag and the words after it, which are called `what`.
+    pub fn values<const N: usize>(&mut self, name: &str, what: &str) -> Result<Option<[String; N]>, String> {
+        let Some(at) = self.words.iter().position(|word| word == name) else { return Ok(None) };
+        if self.words.len() - at - 1 < N {
+            return Err(format!("{name} needs {what} after it"));
+        }
+        let values: Vec<String> = self.words.drain(at..=at + N).skip(1).collect();
+        Ok(values.try_into().ok())
+    }
+
     /// Takes a flag and the word after it.
     pub fn value(&mut self, name: &str) -> Result<Option<String>, String> {
-        let Some(at) = self.words.iter().position(|word| word == name) else { return Ok(None) };
-        if at + 1 == self.words.len() {
-            return Err(format!("{name} needs a value after it"));
-        }
-        self.words.remove(at);
-        Ok(Some(self.words.remove(at)))
+        Ok(self.values::<1>(name, "a value")?.map(|[value]| value))
     }
 
     /// Takes a flag and the number after it.
@@ -86,6 +91,7 @@ mod tests {
 
     #[test]
     fn what_is_wrong_is_named() {
+        assert!(options("--image a 1").values::<3>("--image", "FILE PAW FIRST").unwrap_err().contains("FILE PAW FIRST"));
         assert!(options("--seed").number("--seed").unwrap_err().contains("--seed"));
         assert!(options("--seed x").number("--seed").unwrap_err().contains("`x`"));
         assert!(options("--colour").end().unwrap_err().contains("--colour"));

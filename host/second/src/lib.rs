@@ -26,7 +26,7 @@ pub use edit::{edit, store_list, Asked, Edited, Fence, Store};
 pub use frame::{Frame, Register};
 pub use map::{block_map, gib_map};
 pub use sound::{free_pages, sound, used_pages};
-pub use walk::{lookup, permission_at, Access, Looked, Original, Privilege, Role};
+pub use walk::{field, lookup, permission_at, Access, Looked, Original, Privilege, Role, L2};
 
 /// A permission as the paper numbers it: 0 none, 1 rx, 2 rw, 3 rwx.
 pub type Permission = u8;

@@ -8,16 +8,16 @@ mod reading;
 mod tally;
 mod trial;
 
+use crate::command::Command;
 use crate::options::Options;
 use crate::programs::{self, Program};
 use crate::random::Random;
 use crate::run::DIFFERENT;
-use crate::command::Command;
 use generate::Places;
 use std::io::{IsTerminal, Write};
 use std::time::{Instant, SystemTime};
 use tally::Tally;
-use trial::{Failure, Trial};
+use trial::{catching_panics, Failure, Trial};
 
 /// Calls made on each program if no --count is given.
 const COUNT: u64 = 200_000;
@@ -32,7 +32,8 @@ pub fn main(mut options: Options) -> Result<u8, String> {
     let start = Instant::now();
     let mut tally = Tally::default();
     for sequence in 0.. {
-        if let Err(failure) = run(&programs, &mut Random::new(seed, sequence), &mut tally) {
+        let mut random = Random::new(seed, sequence);
+        if let Err(failure) = catching_panics(|| run(&programs, &mut random, &mut tally)) {
             return Ok(report(seed, sequence, &failure));
         }
         show_progress(tally.calls, count);
@@ -148,7 +149,7 @@ mod tests {
         let mut tally = Tally::default();
         for sequence in 0.. {
             let outcome = run(&programs::all(), &mut Random::new(1, sequence), &mut tally);
-            assert!(outcome.is_ok_and(|()| true), "sequence {sequence}");
+            assert!(outcome.is_ok(), "sequence {sequence}");
             if tally.calls > 6000 {
                 break;
             }

@@ -25,7 +25,7 @@ pub fn check(program: &Program, random: &mut Random, table: &Table) -> Result<()
         ("sound, seven slots", interface.sound(paw, first, &words, &slots[..7])),
     ];
     match answers.iter().find(|(_, code)| *code != 255) {
-        Some((what, code)) => return Err(format!("{}: {what} outside its kind: answer {code}, not 255", program.name)),
+        Some((what, code)) => Err(format!("{}: {what} outside its kind: answer {code}, not 255", program.name)),
         None if words == table.words() && slots == table.slots() => Ok(()),
         None => Err(format!("{}: a call with an argument outside its kind changed the table", program.name)),
     }
