@@ -2,6 +2,7 @@
 
 use crate::command::parse;
 use crate::options::Options;
+use crate::output;
 use crate::programs::{proved_or, Program, PLAIN, SECOND};
 use crate::session::{Outcome, Session};
 
@@ -135,20 +136,21 @@ pub fn main(mut options: Options) -> Result<u8, String> {
             wrong += usize::from(!right);
             print_row(name, asked, answer, answers.iter().map(String::as_str));
             if !right {
-                println!("   ^ differs from document 01");
+                output::line("   ^ differs from document 01");
             }
         }
     }
     match wrong {
-        0 => println!("every answer is document 01's"),
-        _ => println!("{wrong} answers differ"),
+        0 => output::line("every answer is document 01's"),
+        _ => output::line(format!("{wrong} answers differ")),
     }
     Ok(u8::from(wrong > 0))
 }
 
 fn print_row<'a>(case: &str, asked: &str, paper: &str, answers: impl Iterator<Item = &'a str>) {
     let answers: Vec<String> = answers.map(|answer| format!("{answer:<40}")).collect();
-    println!("{}", format!("{case:<2} {asked:<37} {paper:<40} {}", answers.join(" ")).trim_end());
+    let row = format!("{case:<2} {asked:<37} {paper:<40} {}", answers.join(" "));
+    output::line(row.trim_end());
 }
 
 /// Each question with the answers of the programs; the case's name stands at its first.

@@ -1,10 +1,12 @@
 //! `mpt`: runs, tests, measures and draws memory protection tables.
 
+mod bench;
 mod cases;
 mod command;
 mod image;
 mod map;
 mod options;
+mod output;
 mod programs;
 mod run;
 mod random;
@@ -23,6 +25,7 @@ fn main() -> ExitCode {
         "cases" => cases::main(options),
         "map" => map::main(options),
         "test" => test::main(options),
+        "bench" => bench::main(options),
         "help" | "--help" | "-h" => help(),
         "" => Err("what shall be done? See `mpt help`".to_string()),
         other => Err(format!("no command `{other}`; see `mpt help`")),
@@ -37,6 +40,6 @@ fn main() -> ExitCode {
 }
 
 fn help() -> Result<u8, String> {
-    print!("{}", include_str!("help.txt"));
+    output::line(include_str!("help.txt").trim_end());
     Ok(0)
 }

@@ -42,10 +42,20 @@ impl Span {
         self.from == 0 && self.to == BLOCK
     }
 
+    /// The L1 entries that have any page in the span.
+    #[inline]
+    pub fn entries(self) -> std::ops::Range<u64> {
+        self.from / 16..self.to.div_ceil(16)
+    }
+
     /// The fields of an L1 entry that the span covers, all four bits of each.
     #[inline]
     pub fn mask(self, entry: u64) -> u64 {
-        let below = |page: u64| match page.saturating_sub(entry * 16) {
+        let base = entry * 16;
+        if self.from <= base && base + 16 <= self.to {
+            return u64::MAX;
+        }
+        let below = |page: u64| match page.saturating_sub(base) {
             fields @ 0..=15 => (1u64 << (4 * fields)) - 1,
             _ => u64::MAX,
         };
@@ -112,26 +122,29 @@ fn uniform(piece: &[u64; 32]) -> Option<u64> {
     (piece.iter().fold(0, |all, entry| all | entry ^ want) == 0).then_some(permission)
 }
 
-/// Whether every field outside the span has the permission already.
+/// Whether every field of a piece outside the span has the permission already. The piece's first
+/// entry is `base`, and the span meets it.
 #[inline]
 fn rest_is(piece: &[u64; 32], base: u64, span: Span, permission: u64) -> bool {
     let want = spread4(permission);
-    let differs = |(entry, word): (u64, &u64)| (word ^ want) & !span.mask(entry);
-    (base..).zip(piece).map(differs).fold(0, |all, bits| all | bits) == 0
+    let met = span.entries();
+    let (low, high) = (met.start.max(base), met.end.min(base + 32));
+    let differs = |words: &[u64]| words.iter().fold(0, |all, word| all | word ^ want);
+    let edge = |entry: u64| (piece[(entry - base) as usize] ^ want) & !span.mask(entry);
+    let outside = differs(&piece[..(low - base) as usize]) | differs(&piece[(high - base) as usize..]);
+    outside | edge(low) | edge(high - 1) == 0
 }
 
-/// An L1 page for a block that is no TYPE 4 now, with the edit in it.
-pub fn new_table(entry: u64, span: Span, permission: u64) -> [u64; 512] {
+/// Fills an L1 page for a block that is no TYPE 4 now, with the edit in it.
+pub fn fill_table(page: &mut [u64; 512], entry: u64, span: Span, permission: u64) {
     let info = flat_info(entry);
-    let mut page = [0; 512];
     for (number, piece) in page.as_chunks_mut::<32>().0.iter_mut().enumerate() {
         piece.fill(spread4(info >> (2 * number) & 3));
     }
-    for entry in span.from / 16..span.to.div_ceil(16) {
+    for entry in span.entries() {
         let word = &mut page[entry as usize];
         *word = changed(*word, entry, span, permission);
     }
-    page
 }
 
 /// An L1 entry with the edit in it.

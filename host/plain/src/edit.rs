@@ -121,19 +121,24 @@ impl Edit<'_> {
     /// the GiB is of one permission, which is then the asked one.
     fn pieces(&self, gib: u64) -> Option<[Option<u64>; 32]> {
         let asked = Some(spread2(self.permission));
+        let root = &self.words[self.root..][..512];
+        let touched = self.from / BLOCK..=(self.to - 1) / BLOCK;
         let mut same = true;
         let mut all = [None; 32];
         for (place, block) in all.iter_mut().zip(gib * GIB_BLOCKS..) {
-            *place = self.block_pieces(block);
+            let entry = root[block as usize & 511];
+            *place = if entry >> 44 == 4 || touched.contains(&block) {
+                self.block_pieces(entry, self.span(block))
+            } else {
+                Some(flat_info(entry))
+            };
             same &= *place == asked;
         }
         (!same).then_some(all)
     }
 
     #[inline]
-    fn block_pieces(&self, block: u64) -> Option<u64> {
-        let span = self.span(block);
-        let entry = self.words[self.root + block as usize];
+    fn block_pieces(&self, entry: u64, span: Span) -> Option<u64> {
         if span.is_whole() {
             Some(spread2(self.permission))
         } else if entry >> 44 == 4 {
@@ -153,7 +158,15 @@ impl Edit<'_> {
 
     fn one_permission(&mut self, gib: u64) -> ControlFlow<()> {
         let at = self.root + (gib * GIB_BLOCKS) as usize;
-        (at..at + 32).try_for_each(|index| self.change(index, self.permission << 44))
+        let want = self.permission << 44;
+        if self.left < GIB_BLOCKS {
+            return (at..at + 32).try_for_each(|index| self.change(index, want));
+        }
+        let entries = &mut self.words[at..at + 32];
+        self.left -= entries.iter().filter(|entry| **entry != want).count() as u64;
+        entries.fill(want);
+        self.last = at;
+        Continue(())
     }
 
     fn mixed(&mut self, gib: u64, pieces: &[Option<u64>; 32]) -> ControlFlow<()> {
@@ -187,7 +200,7 @@ impl Edit<'_> {
         if span.is_empty() {
             return Continue(());
         }
-        for entry in span.from / 16..span.to.div_ceil(16) {
+        for entry in span.entries() {
             let index = page + entry as usize;
             self.change(index, changed(self.words[index], entry, span, self.permission))?;
         }
@@ -195,15 +208,20 @@ impl Edit<'_> {
     }
 
     fn add_table(&mut self, index: usize, span: Span) -> ControlFlow<()> {
-        let table = new_table(self.words[index], span, self.permission);
+        let entry = self.words[index];
         let page = self.new[self.filled];
         self.filled += 1;
-        let made = self.left.min(512) as usize;
-        self.words[page..page + made].copy_from_slice(&table[..made]);
-        self.left -= made as u64;
-        if made < 512 {
+        let place = self.words[page..].first_chunk_mut::<512>().expect("a new page is lent");
+        if self.left < 512 {
+            let mut table = [0; 512];
+            fill_table(&mut table, entry, span, self.permission);
+            let made = self.left as usize;
+            place[..made].copy_from_slice(&table[..made]);
+            self.left = 0;
             return Break(());
         }
+        fill_table(place, entry, span, self.permission);
+        self.left -= 512;
         self.change(index, 4 << 44 | (self.lent.first + page as u64 / 512))
     }
 }

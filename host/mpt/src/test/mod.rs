@@ -10,6 +10,7 @@ mod trial;
 
 use crate::command::Command;
 use crate::options::Options;
+use crate::output;
 use crate::programs::{self, Program};
 use crate::random::Random;
 use crate::run::DIFFERENT;
@@ -28,7 +29,7 @@ pub fn main(mut options: Options) -> Result<u8, String> {
     options.end()?;
     let programs = programs::all();
     let names: Vec<&str> = programs.iter().map(|program| program.name).collect();
-    println!("seed {seed}: {count} calls on each of {}", names.join(", "));
+    output::line(format!("seed {seed}: {count} calls on each of {}", names.join(", ")));
     let start = Instant::now();
     let mut tally = Tally::default();
     for sequence in 0.. {
@@ -60,16 +61,17 @@ fn show_progress(calls: u64, count: u64) {
 }
 
 fn summary(tally: &Tally, seconds: f64) {
-    println!("{} calls agree in every answer, word and slot; {} cuts keep demand 3; {seconds:.1} s", tally.calls, tally.cuts);
+    let Tally { calls, cuts, .. } = tally;
+    output::line(format!("{calls} calls agree in every answer, word and slot; {cuts} cuts keep demand 3; {seconds:.1} s"));
     for (answer, times) in tally.answers() {
-        println!("{times:>10}  {answer}");
+        output::line(format!("{times:>10}  {answer}"));
     }
 }
 
 fn report(seed: u64, sequence: u64, failure: &Failure) -> u8 {
-    println!("\nFAILED with seed {seed}, sequence {sequence}: {}", failure.what);
-    println!("# the lines from here on are for `mpt run FILE --both`");
-    failure.script.iter().for_each(|command| println!("{command}"));
+    output::line(format!("\nFAILED with seed {seed}, sequence {sequence}: {}", failure.what));
+    output::line("# the lines from here on are for `mpt run FILE --both`");
+    failure.script.iter().for_each(output::line);
     DIFFERENT
 }
 
