@@ -36,7 +36,14 @@ impl<I: Interface> Monitor<I> {
     }
 
     /// May an access of this kind reach the address under this register?
-    pub fn lookup(&self, table: &Table, register: Register, privilege: Privilege, kind: Kind, address: Address) -> Answer {
+    pub fn lookup(
+        &self,
+        table: &Table,
+        register: Register,
+        privilege: Privilege,
+        kind: Kind,
+        address: Address,
+    ) -> Answer {
         let Table { frame, words, .. } = table;
         looked(self.0.lookup(frame.paw, frame.first.0, words, register.0, privilege.code(), kind.code(), address.0))
     }

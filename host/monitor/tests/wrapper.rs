@@ -123,7 +123,8 @@ fn the_proved_library_answers() {
     let monitor = Monitor::proved();
     let mut table = Table::new(Frame { paw: 32, first: PageNumber(0x80000) }, 16);
     assert_eq!(monitor.open(&mut table, Slot(0), Sdid(5)), Ok(Register(0x1140_0000_0008_0000)));
-    let edit = Edit { slot: Slot(0), start: Address(0x4000_0000), length: 0x1000, permission: Permission::Rw, limit: 1536 };
+    let edit =
+        Edit { slot: Slot(0), start: Address(0x4000_0000), length: 0x1000, permission: Permission::Rw, limit: 1536 };
     let edited = Edited { stores: 544, all: true, fence: Fence::Domain(Sdid(5)) };
     assert_eq!(monitor.edit(&mut table, edit), Ok(edited));
     assert_eq!(table.words()[32], 0x0000_4000_0008_0001);

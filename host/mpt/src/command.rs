@@ -44,17 +44,8 @@ const FORMS: [(&str, &str); 13] = [
 ];
 
 /// The names of the kinds, in the order of their codes.
-pub const KINDS: [&str; 9] = [
-    "fetch",
-    "load",
-    "store",
-    "walk-fetch",
-    "walk-load",
-    "walk-store",
-    "update-fetch",
-    "update-load",
-    "update-store",
-];
+pub const KINDS: [&str; 9] =
+    ["fetch", "load", "store", "walk-fetch", "walk-load", "walk-store", "update-fetch", "update-load", "update-store"];
 
 /// Reads a line: nothing if it is blank or a comment.
 pub fn parse(line: &str) -> Result<Option<Command>, String> {
@@ -162,7 +153,11 @@ impl<'a> Fields<'a> {
     }
 
     fn small_or(&mut self, name: &str, most: usize, missing: usize) -> Result<usize, String> {
-        if self.rest.clone().next().is_none() { Ok(missing) } else { self.small(name, most) }
+        if self.rest.clone().next().is_none() {
+            Ok(missing)
+        } else {
+            self.small(name, most)
+        }
     }
 
     fn one_of<T: Copy>(&mut self, name: &str, known: &[(&str, T)]) -> Result<T, String> {

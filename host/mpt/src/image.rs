@@ -28,9 +28,7 @@ pub fn from_bytes(frame: Frame, bytes: &[u8]) -> Result<Table, String> {
 pub fn sum(table: &Table) -> u32 {
     let rows = crc_rows();
     let words = table.slots().iter().chain(table.words());
-    !words.flat_map(|word| word.to_le_bytes()).fold(!0, |crc: u32, byte| {
-        crc >> 8 ^ rows[usize::from(crc as u8 ^ byte)]
-    })
+    !words.flat_map(|word| word.to_le_bytes()).fold(!0, |crc: u32, byte| crc >> 8 ^ rows[usize::from(crc as u8 ^ byte)])
 }
 
 /// What each low byte adds: the polynomial 0x04C11DB7, lowest bit first.
@@ -58,7 +56,11 @@ mod tests {
 
     #[test]
     fn bytes_there_and_back() {
-        let table = Table::from_parts(FRAME, (0..1000u64).map(|n| n.wrapping_mul(0x0123_4567_89AB_CDEF)).collect(), [1, 2, 3, 4, 5, 6, 7, 8]);
+        let table = Table::from_parts(
+            FRAME,
+            (0..1000u64).map(|n| n.wrapping_mul(0x0123_4567_89AB_CDEF)).collect(),
+            [1, 2, 3, 4, 5, 6, 7, 8],
+        );
         let bytes = to_bytes(&table);
         assert_eq!(bytes[..9], [1, 0, 0, 0, 0, 0, 0, 0, 2]);
         assert_eq!(from_bytes(FRAME, &bytes), Ok(table));

@@ -8,8 +8,8 @@ mod map;
 mod options;
 mod output;
 mod programs;
-mod run;
 mod random;
+mod run;
 mod session;
 mod test;
 

@@ -91,7 +91,10 @@ mod tests {
 
     #[test]
     fn what_is_wrong_is_named() {
-        assert!(options("--image a 1").values::<3>("--image", "FILE PAW FIRST").unwrap_err().contains("FILE PAW FIRST"));
+        assert!(options("--image a 1")
+            .values::<3>("--image", "FILE PAW FIRST")
+            .unwrap_err()
+            .contains("FILE PAW FIRST"));
         assert!(options("--seed").number("--seed").unwrap_err().contains("--seed"));
         assert!(options("--seed x").number("--seed").unwrap_err().contains("`x`"));
         assert!(options("--colour").end().unwrap_err().contains("--colour"));

@@ -158,8 +158,12 @@ fn free(table: &Table) -> String {
 fn call(program: Program, table: &mut Table, command: &Command) -> String {
     let monitor = program.monitor();
     match *command {
-        Command::Open { slot, sdid } => or_refused(monitor.open(table, slot, sdid), |register| format!("opened {register}")),
-        Command::Close { slot } => or_refused(monitor.close(table, slot), |fence| format!("closed {}", fence_text(fence))),
+        Command::Open { slot, sdid } => {
+            or_refused(monitor.open(table, slot, sdid), |register| format!("opened {register}"))
+        }
+        Command::Close { slot } => {
+            or_refused(monitor.close(table, slot), |fence| format!("closed {}", fence_text(fence)))
+        }
         Command::Edit(edit) => or_refused(monitor.edit(table, edit), edited_text),
         Command::Lookup { register, privilege, kind, address } => {
             match monitor.lookup(table, register, privilege, kind, address) {
@@ -209,7 +213,9 @@ mod tests {
     #[test]
     fn raw_reads_and_writes() {
         let mut session = Session::new(&[SECOND, PLAIN]);
-        let mut expect = |line: &str, answer: &str| assert_eq!(run(&mut session, line), Outcome::Answer(answer.to_string()), "{line}");
+        let mut expect = |line: &str, answer: &str| {
+            assert_eq!(run(&mut session, line), Outcome::Answer(answer.to_string()), "{line}")
+        };
         expect("frame 32 0x80000 2", "ok");
         // by zlib, over 64 + 8,192 zero bytes
         expect("sum", "45d57ebb");
@@ -245,7 +251,19 @@ mod tests {
             PLAIN.interface.close(a, b, c, d, e, f)
         }
 
-        fn edit(&self, a: u64, b: u64, c: &mut [u64], d: &[u64], e: u64, f: u64, g: u64, h: u64, i: u64, j: &mut [u64]) -> u64 {
+        fn edit(
+            &self,
+            a: u64,
+            b: u64,
+            c: &mut [u64],
+            d: &[u64],
+            e: u64,
+            f: u64,
+            g: u64,
+            h: u64,
+            i: u64,
+            j: &mut [u64],
+        ) -> u64 {
             let code = PLAIN.interface.edit(a, b, c, d, e, f, g, h, i, j);
             j[0] += 1;
             code

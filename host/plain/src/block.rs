@@ -92,7 +92,11 @@ pub fn pieces_of_flat(entry: u64, span: Span, permission: u64) -> Option<u64> {
 /// TYPE 6 info that says what an entry says that is no TYPE 4.
 #[inline]
 pub fn flat_info(entry: u64) -> u64 {
-    if entry >> 44 == 6 { entry & 0xFFFF_FFFF } else { spread2(entry >> 44) }
+    if entry >> 44 == 6 {
+        entry & 0xFFFF_FFFF
+    } else {
+        spread2(entry >> 44)
+    }
 }
 
 /// TYPE 6 info of a block that is TYPE 4 now; nothing if the edit leaves a piece mixed.

@@ -19,16 +19,14 @@ pub fn sound_obvious(paw: u64, first: u64, words: &[u64], slots: &[u64]) -> u64 
 }
 
 #[inline(always)]
-fn answer(
-    paw: u64,
-    first: u64,
-    words: &[u64],
-    slots: &[u64],
-    is_sound: impl Fn(Lent, &[u64; 8]) -> bool,
-) -> u64 {
+fn answer(paw: u64, first: u64, words: &[u64], slots: &[u64], is_sound: impl Fn(Lent, &[u64; 8]) -> bool) -> u64 {
     let Ok(slots) = slots.try_into() else { return OUTSIDE_KIND };
     let Some(lent) = Lent::new(paw, first, words.len()) else { return BAD_FRAME };
-    if is_sound(lent, slots) { DONE } else { NOT_SOUND }
+    if is_sound(lent, slots) {
+        DONE
+    } else {
+        NOT_SOUND
+    }
 }
 
 /// The pages in use, if the table is sound.

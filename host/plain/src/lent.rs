@@ -12,7 +12,7 @@ impl Lent {
     #[inline]
     pub fn new(paw: u64, first: u64, words: usize) -> Option<Lent> {
         let pages = words as u64 / 512;
-        if paw.wrapping_sub(30) > 4 || words % 512 != 0 || pages.wrapping_sub(2) > 254 {
+        if paw.wrapping_sub(30) > 4 || !words.is_multiple_of(512) || pages.wrapping_sub(2) > 254 {
             return None;
         }
         let room = (1u64 << (paw - 12)) - pages;
@@ -41,7 +41,7 @@ impl Used {
     /// Marks a page; false if it was marked before.
     #[inline]
     pub fn mark(&mut self, page: usize) -> bool {
-        let (group, bit) = (page / 64 & 3, 1 << (page % 64));
+        let (group, bit) = ((page / 64) & 3, 1 << (page % 64));
         let fresh = self.0[group] & bit == 0;
         self.0[group] |= bit;
         fresh

@@ -6,13 +6,7 @@ use crate::sound::{free_pages, open_registers, used_pages};
 use crate::{Refusal, Slots};
 
 /// Opens an empty slot: the lowest free page, zeroed, becomes its root. Answers the register.
-pub fn open(
-    frame: Frame,
-    words: &mut [u64],
-    slots: &mut Slots,
-    slot: u64,
-    sdid: u64,
-) -> Result<u64, Refusal> {
+pub fn open(frame: Frame, words: &mut [u64], slots: &mut Slots, slot: u64, sdid: u64) -> Result<u64, Refusal> {
     if !frame.within_bounds(words) {
         return Err(1);
     }
@@ -32,12 +26,7 @@ pub fn open(
 }
 
 /// Empties a slot, writes no byte and asks for a domain fence.
-pub fn close(
-    frame: Frame,
-    words: &[u64],
-    slots: &mut Slots,
-    slot: u64,
-) -> Result<Fence, Refusal> {
+pub fn close(frame: Frame, words: &[u64], slots: &mut Slots, slot: u64) -> Result<Fence, Refusal> {
     if !frame.within_bounds(words) {
         return Err(1);
     }

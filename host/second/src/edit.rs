@@ -39,13 +39,7 @@ pub struct Edited {
 }
 
 /// Makes the first stores of the list up to the limit.
-pub fn edit(
-    frame: Frame,
-    words: &mut [u64],
-    slots: &Slots,
-    asked: Asked,
-    limit: u64,
-) -> Result<Edited, Refusal> {
+pub fn edit(frame: Frame, words: &mut [u64], slots: &Slots, asked: Asked, limit: u64) -> Result<Edited, Refusal> {
     let list = store_list(frame, words, slots, asked)?;
     let made = list.len().min(usize::try_from(limit).unwrap_or(usize::MAX));
     for store in &list[..made] {
@@ -58,14 +52,7 @@ pub fn edit(
 
 /// "No store made, none. Range of one page and a whole edit of one store into an L1 entry: that
 /// address and SDID. Otherwise the whole domain."
-fn fence(
-    frame: Frame,
-    words: &[u64],
-    register: Register,
-    asked: Asked,
-    list: &[Store],
-    made: usize,
-) -> Fence {
+fn fence(frame: Frame, words: &[u64], register: Register, asked: Asked, list: &[Store], made: usize) -> Fence {
     let root = frame.word_index(words, register.ppn).expect("an open slot's root is lent");
     let in_root = |store: &Store| (root..root + frame.blocks()).contains(&store.index);
     match list {
@@ -78,12 +65,7 @@ fn fence(
 }
 
 /// The whole store list of an edit, or its refusal. Changes nothing.
-pub fn store_list(
-    frame: Frame,
-    words: &[u64],
-    slots: &Slots,
-    asked: Asked,
-) -> Result<Vec<Store>, Refusal> {
+pub fn store_list(frame: Frame, words: &[u64], slots: &Slots, asked: Asked) -> Result<Vec<Store>, Refusal> {
     if !frame.within_bounds(words) {
         return Err(1);
     }
@@ -111,8 +93,8 @@ pub fn store_list(
 fn range_refused(frame: Frame, asked: Asked) -> bool {
     let end = u128::from(asked.start) + u128::from(asked.length);
     asked.length == 0
-        || asked.start % PAGE_BYTES != 0
-        || asked.length % PAGE_BYTES != 0
+        || !asked.start.is_multiple_of(PAGE_BYTES)
+        || !asked.length.is_multiple_of(PAGE_BYTES)
         || end > 1 << frame.paw
 }
 

@@ -82,8 +82,7 @@ fn one_permission(pages: &[Permission]) -> Option<Permission> {
 
 /// The 512 entries of an L1 page that says what a block's map says.
 pub fn l1_entries(block: &[Permission]) -> Vec<u64> {
-    let entry = |fields: &[Permission]| {
-        fields.iter().rev().fold(0, |word, &permission| word << 4 | u64::from(permission))
-    };
+    let entry =
+        |fields: &[Permission]| fields.iter().rev().fold(0, |word, &permission| word << 4 | u64::from(permission));
     block.chunks(16).map(entry).collect()
 }

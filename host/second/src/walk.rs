@@ -158,14 +158,7 @@ fn register_refused(register: Register) -> bool {
 }
 
 /// Checks the frame, then the register, then privilege and Bare, then walks.
-pub fn lookup(
-    frame: Frame,
-    words: &[u64],
-    mmpt: u64,
-    privilege: Privilege,
-    access: Access,
-    address: u64,
-) -> Looked {
+pub fn lookup(frame: Frame, words: &[u64], mmpt: u64, privilege: Privilege, access: Access, address: u64) -> Looked {
     if !frame.within_bounds(words) {
         return Looked::Refused(1);
     }

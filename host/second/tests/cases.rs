@@ -175,9 +175,7 @@ fn refusals_keep_the_order_of_the_paper() {
 fn registers_and_frames_that_a_lookup_refuses() {
     let words = vec![0; 1024];
     let access = Access { original: Original::Load, role: Role::Itself };
-    let look = |paw, first, mmpt, privilege| {
-        lookup(Frame { paw, first }, &words, mmpt, privilege, access, u64::MAX)
-    };
+    let look = |paw, first, mmpt, privilege| lookup(Frame { paw, first }, &words, mmpt, privilege, access, u64::MAX);
     let (m, s) = (Privilege::Machine, Privilege::Supervisor);
     assert_eq!(look(29, 1, 0, m), Looked::Refused(1));
     assert_eq!(look(35, 1, 0, m), Looked::Refused(1));

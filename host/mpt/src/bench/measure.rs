@@ -29,17 +29,26 @@ impl Row {
     }
 }
 
+/// Says the time, in nanoseconds from some moment on.
+pub type Clock<'a> = &'a dyn Fn() -> f64;
+
+/// The machine's clock.
+pub fn clock() -> impl Fn() -> f64 {
+    let start = Instant::now();
+    move || start.elapsed().as_nanos() as f64
+}
+
 /// Measures a subject beside a yardstick. Each round times both, in turn first, so that a busy
 /// machine slows both alike.
-pub fn measure(work: &Work, subject: &dyn Interface, yardstick: &dyn Interface, rounds: usize) -> Row {
+pub fn measure(work: &Work, subject: &dyn Interface, yardstick: &dyn Interface, rounds: usize, clock: Clock) -> Row {
     let mut tables = work.tables();
     let mut times = [Times::default(), Times::default()];
     for round in 0..rounds + 1 {
         for turn in 0..2 {
             let which = (round + turn) % 2;
             let program = [subject, yardstick][which];
-            let call = time_call(work, program, &mut tables);
-            let check = time_check(work, program, &mut tables);
+            let call = time_call(work, program, &mut tables, clock);
+            let check = time_check(work, program, &mut tables, clock);
             // the first round warms up
             if round > 0 {
                 times[which].call.push(call);
@@ -54,23 +63,19 @@ pub fn measure(work: &Work, subject: &dyn Interface, yardstick: &dyn Interface, 
     }
 }
 
-fn time_call(work: &Work, program: &dyn Interface, tables: &mut [Table]) -> f64 {
+fn time_call(work: &Work, program: &dyn Interface, tables: &mut [Table], clock: Clock) -> f64 {
     work.reset(tables);
-    let start = Instant::now();
+    let start = clock();
     black_box(work.batch(black_box(program), tables));
-    nanoseconds(start) / work.calls(tables) as f64
+    (clock() - start) / work.calls(tables) as f64
 }
 
 /// The whole-table check on the tables as they are before the call.
-fn time_check(work: &Work, program: &dyn Interface, tables: &mut [Table]) -> f64 {
+fn time_check(work: &Work, program: &dyn Interface, tables: &mut [Table], clock: Clock) -> f64 {
     work.reset(tables);
-    let start = Instant::now();
+    let start = clock();
     black_box(tables.iter().map(|table| sound(black_box(program), table)).sum::<u64>());
-    nanoseconds(start) / tables.len() as f64
-}
-
-fn nanoseconds(start: Instant) -> f64 {
-    start.elapsed().as_nanos() as f64
+    (clock() - start) / tables.len() as f64
 }
 
 fn median(mut numbers: Vec<f64>) -> f64 {
@@ -83,29 +88,57 @@ mod tests {
     use super::super::work;
     use super::*;
     use crate::programs::PLAIN;
+    use std::cell::Cell;
 
-    /// Plain, but each lookup and each check is made three times.
-    struct Slow;
+    /// Plain, in a time of its own: a check takes `check` and any other call `call`.
+    struct Timed<'a> {
+        time: &'a Cell<f64>,
+        call: f64,
+        check: f64,
+    }
 
-    impl Interface for Slow {
+    impl Timed<'_> {
+        fn pass(&self, time: f64) {
+            self.time.set(self.time.get() + time);
+        }
+    }
+
+    impl Interface for Timed<'_> {
         fn lookup(&self, a: u64, b: u64, c: &[u64], d: u64, e: u64, f: u64, g: u64) -> u64 {
-            (0..3).map(|_| black_box(PLAIN.interface.lookup(a, b, c, d, e, f, g))).max().unwrap()
+            self.pass(self.call);
+            PLAIN.interface.lookup(a, b, c, d, e, f, g)
         }
 
         fn open(&self, a: u64, b: u64, c: &mut [u64], d: &mut [u64], e: u64, f: u64) -> u64 {
+            self.pass(self.call);
             PLAIN.interface.open(a, b, c, d, e, f)
         }
 
         fn close(&self, a: u64, b: u64, c: &[u64], d: &mut [u64], e: u64, f: &mut [u64]) -> u64 {
+            self.pass(self.call);
             PLAIN.interface.close(a, b, c, d, e, f)
         }
 
-        fn edit(&self, a: u64, b: u64, c: &mut [u64], d: &[u64], e: u64, f: u64, g: u64, h: u64, i: u64, j: &mut [u64]) -> u64 {
+        fn edit(
+            &self,
+            a: u64,
+            b: u64,
+            c: &mut [u64],
+            d: &[u64],
+            e: u64,
+            f: u64,
+            g: u64,
+            h: u64,
+            i: u64,
+            j: &mut [u64],
+        ) -> u64 {
+            self.pass(self.call);
             PLAIN.interface.edit(a, b, c, d, e, f, g, h, i, j)
         }
 
         fn sound(&self, a: u64, b: u64, c: &[u64], d: &[u64]) -> u64 {
-            (0..3).map(|_| black_box(PLAIN.interface.sound(a, b, c, d))).max().unwrap()
+            self.pass(self.check);
+            PLAIN.interface.sound(a, b, c, d)
         }
     }
 
@@ -115,13 +148,24 @@ mod tests {
     }
 
     #[test]
-    fn plain_against_plain_is_near_one_and_three_calls_are_near_three() {
-        for work in [work::lookup(), work::largest()] {
-            let same = measure(&work, PLAIN.interface, PLAIN.interface, 31).ratio();
-            assert!((0.6..1.6).contains(&same), "{}: {same}", work.name);
-            let slow = measure(&work, &Slow, PLAIN.interface, 31).ratio();
-            assert!((1.9..4.5).contains(&slow), "{}: {slow}", work.name);
+    fn times_and_ratios_are_those_of_one_call() {
+        let time = &Cell::new(0.0);
+        let subject = Timed { time, call: 60.0, check: 10.0 };
+        let yardstick = Timed { time, call: 30.0, check: 20.0 };
+        let measure = |work: &Work| measure(work, &subject, &yardstick, 3, &|| time.get());
+        for work in [work::lookup(), work::open(), work::close()] {
+            assert_eq!((measure(&work).call, measure(&work).ratio()), ([60.0, 30.0], 2.0), "{}", work.name);
         }
+        assert_eq!(measure(&work::largest()).call, [10.0, 20.0]);
+        let row = measure(&work::edits()[0]);
+        assert_eq!((row.call, row.ratio()), ([60.0, 30.0], 2.0));
+        assert_eq!((row.beyond, row.ratio_beyond()), ([50.0, 10.0], 5.0));
+    }
+
+    #[test]
+    fn plain_against_plain_by_the_clock() {
+        let row = measure(&work::lookup(), PLAIN.interface, PLAIN.interface, 101, &clock());
+        assert!((0.2..5.0).contains(&row.ratio()), "{}", row.ratio());
     }
 
     #[test]
@@ -130,7 +174,6 @@ mod tests {
             let work::Call::Edit(edit) = work.call else { panic!("an edit") };
             let edited = PLAIN.monitor().edit(&mut work.table.clone(), edit).unwrap();
             assert_eq!((edited.stores, edited.all), (stores, true), "{}", work.name);
-            assert!(measure(work, PLAIN.interface, PLAIN.interface, 5).call[0] > 0.0);
         }
     }
 

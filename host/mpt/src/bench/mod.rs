@@ -6,7 +6,7 @@ mod work;
 use crate::options::Options;
 use crate::output;
 use crate::programs::{Program, PLAIN, PROVED};
-use measure::{measure, Row};
+use measure::{clock, measure, Row};
 use mpt_monitor::Interface;
 use work::Work;
 
@@ -65,7 +65,7 @@ fn edits(subject: Program, rounds: usize, ratios: &mut Ratios) -> Result<(), Str
 
 fn row(work: &Work, subject: Program, yardstick: Program, rounds: usize) -> Result<Row, String> {
     work::check_agreement(work, subject, yardstick)?;
-    Ok(measure(work, subject.interface, yardstick.interface, rounds))
+    Ok(measure(work, subject.interface, yardstick.interface, rounds, &clock()))
 }
 
 fn line(name: &str, what: &str, [subject, plain]: [f64; 2]) {
@@ -74,7 +74,11 @@ fn line(name: &str, what: &str, [subject, plain]: [f64; 2]) {
 }
 
 fn time(nanoseconds: f64) -> String {
-    if nanoseconds < 10_000.0 { format!("{nanoseconds:.1} ns") } else { format!("{:.2} us", nanoseconds / 1000.0) }
+    if nanoseconds < 10_000.0 {
+        format!("{nanoseconds:.1} ns")
+    } else {
+        format!("{:.2} us", nanoseconds / 1000.0)
+    }
 }
 
 /// Plain, with the obvious whole-table check in place of the tuned one.
@@ -93,7 +97,19 @@ impl Interface for Obvious {
         PLAIN.interface.close(a, b, c, d, e, f)
     }
 
-    fn edit(&self, a: u64, b: u64, c: &mut [u64], d: &[u64], e: u64, f: u64, g: u64, h: u64, i: u64, j: &mut [u64]) -> u64 {
+    fn edit(
+        &self,
+        a: u64,
+        b: u64,
+        c: &mut [u64],
+        d: &[u64],
+        e: u64,
+        f: u64,
+        g: u64,
+        h: u64,
+        i: u64,
+        j: &mut [u64],
+    ) -> u64 {
         PLAIN.interface.edit(a, b, c, d, e, f, g, h, i, j)
     }
 

@@ -69,7 +69,9 @@ impl Picture {
         if !frame.within_bounds(table.words()) {
             let words = table.words().len();
             let (paw, first) = (frame.paw, frame.first);
-            return Err(format!("the frame breaks its bounds (PAW {paw}, first page {first:#x}, {words} words), so nothing can be read"));
+            return Err(format!(
+                "the frame breaks its bounds (PAW {paw}, first page {first:#x}, {words} words), so nothing can be read"
+            ));
         }
         let open = table.slots().iter().enumerate().filter(|(_, &word)| word != 0);
         let domains: Vec<Domain> = open.map(|(slot, &word)| domain(frame, table, slot, Register(word))).collect();
@@ -90,18 +92,28 @@ impl Picture {
 
     /// One line about the frame and its pages.
     pub fn summary(&self) -> String {
-        let last = self.first + self.pages.len() as u64 - 1;
-        let roots = self.count(|each| matches!(each, Use::Root(_)));
-        let l1 = self.count(|each| matches!(each, Use::L1(_)));
+        let (first, last) = (self.first, self.first + self.pages.len() as u64 - 1);
+        let roots = number_of(self.count(|each| matches!(each, Use::Root(_))), "root");
+        let l1 = number_of(self.count(|each| matches!(each, Use::L1(_))), "L1 page");
         let free = self.count(|each| *each == Use::Free);
-        let pages = self.pages.len();
-        let first = self.first;
-        format!("PAW {}, {pages} lent pages {first:#x} to {last:#x}: {roots} roots, {l1} L1 pages, {free} free", self.paw)
+        format!(
+            "PAW {}, lent pages {first:#x} to {last:#x} ({}): {roots}, {l1}, {free} free",
+            self.paw,
+            self.pages.len()
+        )
     }
 
     pub fn verdict(&self) -> &'static str {
-        if self.sound { "The table is sound." } else { "The table is NOT SOUND: open, close and edit are refused (3)." }
+        if self.sound {
+            "The table is sound."
+        } else {
+            "The table is NOT SOUND: open, close and edit are refused (3)."
+        }
     }
+}
+
+fn number_of(count: usize, what: &str) -> String {
+    format!("{count} {what}{}", if count == 1 { "" } else { "s" })
 }
 
 fn domain(frame: second::Frame, table: &Table, slot: usize, register: Register) -> Domain {
@@ -188,6 +200,8 @@ pub mod tests {
         assert_eq!(picture.pages[..3], [Use::Root(0), Use::L1(0), Use::Free]);
         assert_eq!(picture.count(|each| *each == Use::Free), 14);
         assert!(picture.sound);
+        let summary = "PAW 32, lent pages 0x80000 to 0x8000f (16): 1 root, 1 L1 page, 14 free";
+        assert_eq!(picture.summary(), summary);
     }
 
     #[test]

@@ -51,7 +51,9 @@ impl Sheet {
     }
 
     pub fn text(&mut self, x: f64, y: f64, size: f64, anchor: &str, text: &str) {
-        self.line(format_args!(r##"<text x="{x:.1}" y="{y:.1}" font-size="{size:.1}" text-anchor="{anchor}" fill="#202020">{text}</text>"##));
+        self.line(format_args!(
+            r##"<text x="{x:.1}" y="{y:.1}" font-size="{size:.1}" text-anchor="{anchor}" fill="#202020">{text}</text>"##
+        ));
     }
 
     /// A letter in the middle of a box.
@@ -70,7 +72,9 @@ impl Sheet {
     /// A box without an edge, so that neighbours meet.
     pub fn fill(&mut self, place: Box, fill: &str) {
         let Box { x, y, width: w, height: h } = place;
-        self.line(format_args!(r#"<rect x="{x:.2}" y="{y:.2}" width="{w:.2}" height="{h:.2}" fill="{fill}" shape-rendering="crispEdges"/>"#));
+        self.line(format_args!(
+            r#"<rect x="{x:.2}" y="{y:.2}" width="{w:.2}" height="{h:.2}" fill="{fill}" shape-rendering="crispEdges"/>"#
+        ));
     }
 
     /// A dot in the upper right corner of a box.

@@ -1,7 +1,7 @@
 //! The picture as a page of A4 that can be printed and hung at the bench. Lengths are in tenths of
 //! a millimetre.
 
-use super::picture::{Cell, Domain, Piece, Picture, Use, GIB_BLOCKS};
+use super::picture::{Cell, Domain, Picture, Piece, Use, GIB_BLOCKS};
 use super::sheet::{Box, Sheet};
 use mpt_monitor::Permission;
 
@@ -105,7 +105,13 @@ fn panel(sheet: &mut Sheet, picture: &Picture, domain: &Domain, layout: &Layout,
         let row = y + PANEL_HEAD + gib as f64 * layout.cell.height;
         if block == 0 {
             let size = 26f64.min(layout.cell.height * 0.9);
-            sheet.text(x, row + layout.cell.height * 0.5 + size * 0.36, size, "start", &format!("0x{:09x}", (gib as u64) << 30));
+            sheet.text(
+                x,
+                row + layout.cell.height * 0.5 + size * 0.36,
+                size,
+                "start",
+                &format!("0x{:09x}", (gib as u64) << 30),
+            );
         }
         let place = Box { x: x + layout.label + block as f64 * layout.cell.width, y: row, ..layout.cell };
         draw_cell(sheet, cell, place, number);
@@ -209,7 +215,13 @@ fn legend(sheet: &mut Sheet, y: f64) {
         (Cell::Pages(0, by_pages), "by pages; hatched: mixed"),
         (Cell::Faults, "faults: bad entry"),
     ];
-    sheet.text(LEFT, y, 30.0, "start", "A cell is a block of 32 MiB, a row is a GiB. Its sixteenths are 2 MiB each, lowest at the upper left.");
+    sheet.text(
+        LEFT,
+        y,
+        30.0,
+        "start",
+        "A cell is a block of 32 MiB, a row is a GiB. Its sixteenths are 2 MiB each, lowest at the upper left.",
+    );
     for (nth, (cell, text)) in cells.iter().enumerate() {
         let place = legend_place(nth, y + 30.0);
         draw_cell(sheet, cell, place, 0);
@@ -219,7 +231,12 @@ fn legend(sheet: &mut Sheet, y: f64) {
     draw_cell(sheet, &Cell::Whole(None), place, 0);
     sheet.dot(place);
     sheet.text(place.x + 66.0, place.y + 36.0, 28.0, "start", "holds lent pages");
-    let uses = [(Use::Root(0), "root page of slot 0"), (Use::L1(0), "L1 page of slot 0"), (Use::Free, "free page"), (Use::Twice, "page used twice")];
+    let uses = [
+        (Use::Root(0), "root page of slot 0"),
+        (Use::L1(0), "L1 page of slot 0"),
+        (Use::Free, "free page"),
+        (Use::Twice, "page used twice"),
+    ];
     for (nth, (page, text)) in uses.iter().enumerate() {
         let place = Box { height: 40.0, ..legend_place(8 + nth, y + 30.0) };
         draw_page(sheet, *page, place, 0);

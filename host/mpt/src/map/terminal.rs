@@ -39,7 +39,11 @@ struct Ink {
 
 impl Ink {
     fn paint(&self, text: &str, colour: u8) -> String {
-        if self.colour { format!("\x1b[97;48;5;{colour}m{text}\x1b[0m") } else { text.to_string() }
+        if self.colour {
+            format!("\x1b[97;48;5;{colour}m{text}\x1b[0m")
+        } else {
+            text.to_string()
+        }
     }
 
     /// A letter in the colour of its meaning.
@@ -98,7 +102,12 @@ fn legend(ink: &Ink) -> String {
     for (letter, meaning, _) in LETTERS {
         let _ = writeln!(text, "  {}  {meaning}", ink.letter(letter));
     }
-    let pages = [(Use::Root(0), "root of slot 0"), (Use::L1(0), "L1 page of slot 0"), (Use::Free, "free"), (Use::Twice, "used twice")];
+    let pages = [
+        (Use::Root(0), "root of slot 0"),
+        (Use::L1(0), "L1 page of slot 0"),
+        (Use::Free, "free"),
+        (Use::Twice, "used twice"),
+    ];
     text += "a lent page is\n";
     for (page, meaning) in pages {
         let _ = writeln!(text, "  {} {meaning}", ink.page(&page));

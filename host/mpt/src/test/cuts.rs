@@ -96,7 +96,9 @@ fn finish(trial: &mut Trial, whole: &Whole) -> Result<(), Failure> {
     again(trial, whole, u64::MAX)?;
     trial.check(reads_the_same(trial.table(), &whole.after))?;
     let (free, wanted) = (free_count(trial.table()), free_count(&whole.after));
-    trial.check((free == wanted).then_some(()).ok_or_else(|| format!("{free:?} pages are free; {wanted:?} without cuts")))
+    trial.check(
+        (free == wanted).then_some(()).ok_or_else(|| format!("{free:?} pages are free; {wanted:?} without cuts")),
+    )
 }
 
 /// The same edit again, which must be accepted.

@@ -26,7 +26,7 @@ pub fn reshape(random: &mut Random, table: &Table, places: &Places) -> Vec<Comma
     let place = root + block;
     let word = match random.below(4) {
         0 => permission(random).code() << 44,
-        1 => 6 << 44 | permission(random).code() * 0x5555_5555,
+        1 => (6 << 44) | (permission(random).code() * 0x5555_5555),
         2 => 6 << 44 | random.next() & 0xFFFF_FFFF,
         _ => return link_page(random, table, &used, place),
     };
@@ -36,7 +36,8 @@ pub fn reshape(random: &mut Random, table: &Table, places: &Places) -> Vec<Comma
 /// A free page, written field by field in some pattern and then named by an entry.
 fn link_page(random: &mut Random, table: &Table, used: &[u64], place: usize) -> Vec<Command> {
     let first = table.frame().first.0;
-    let free: Vec<u64> = (first..first + (table.words().len() / PAGE_WORDS) as u64).filter(|page| !used.contains(page)).collect();
+    let free: Vec<u64> =
+        (first..first + (table.words().len() / PAGE_WORDS) as u64).filter(|page| !used.contains(page)).collect();
     if free.is_empty() {
         return Vec::new();
     }
@@ -45,7 +46,7 @@ fn link_page(random: &mut Random, table: &Table, used: &[u64], place: usize) -> 
     let base = permission(random).code() * 0x1111_1111_1111_1111;
     let mut words: Vec<u64> = match random.below(3) {
         0 => vec![base; PAGE_WORDS],
-        1 => (0..PAGE_WORDS).map(|entry| (entry as u64 / 32 * 7 & 3) * 0x1111_1111_1111_1111).collect(),
+        1 => (0..PAGE_WORDS).map(|entry| ((entry as u64 / 32 * 7) & 3) * 0x1111_1111_1111_1111).collect(),
         _ => table.words()[at..at + PAGE_WORDS].iter().map(|word| word & FIELDS).collect(),
     };
     for _ in 0..random.below(4) {

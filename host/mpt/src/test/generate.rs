@@ -146,7 +146,7 @@ fn spoil(random: &mut Random, places: &Places, edit: &mut Edit) {
         4 => edit.length = places.space - edit.start.0,
         5 => (edit.start.0, edit.length) = (u64::MAX - 4095, 4096 * random.below(3)),
         6 => edit.start.0 += places.space,
-        _ => edit.length = (1 << 63) + edit.length,
+        _ => edit.length += 1 << 63,
     }
 }
 
@@ -169,7 +169,12 @@ pub fn lookup(random: &mut Random, table: &Table, places: &Places) -> Command {
         2 => places.space - 1,
         _ => places.page_address(random) + random.below(4096),
     };
-    Command::Lookup { register: register(random, table), privilege, kind: random.pick(&kinds), address: Address(address) }
+    Command::Lookup {
+        register: register(random, table),
+        privilege,
+        kind: random.pick(&kinds),
+        address: Address(address),
+    }
 }
 
 /// A register for a lookup: an open slot's, near one, or anything.

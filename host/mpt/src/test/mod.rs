@@ -62,7 +62,9 @@ fn show_progress(calls: u64, count: u64) {
 
 fn summary(tally: &Tally, seconds: f64) {
     let Tally { calls, cuts, .. } = tally;
-    output::line(format!("{calls} calls agree in every answer, word and slot; {cuts} cuts keep demand 3; {seconds:.1} s"));
+    output::line(format!(
+        "{calls} calls agree in every answer, word and slot; {cuts} cuts keep demand 3; {seconds:.1} s"
+    ));
     for (answer, times) in tally.answers() {
         output::line(format!("{times:>10}  {answer}"));
     }

@@ -111,8 +111,13 @@ mod tests {
     use crate::programs::SECOND;
     use mpt_monitor::{Address, Frame, PageNumber, Permission, Sdid, Slot};
 
-    const EDIT: Edit =
-        Edit { slot: Slot(0), start: Address(0x4000_0000), length: 0x3000, permission: Permission::Rw, limit: u64::MAX };
+    const EDIT: Edit = Edit {
+        slot: Slot(0),
+        start: Address(0x4000_0000),
+        length: 0x3000,
+        permission: Permission::Rw,
+        limit: u64::MAX,
+    };
 
     fn before_and_after() -> (Table, Table) {
         let mut before = Table::new(Frame { paw: 32, first: PageNumber(0x80000) }, 4);
