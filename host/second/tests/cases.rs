@@ -141,6 +141,22 @@ fn case_k_freed_pages_are_free_for_the_next_call() {
     assert!(bench.edit(RW, 0x4200_0000, 0x1000, 1536).is_ok());
 }
 
+/// "New pages are the lowest pages free before the edit": a page that a cut edit unlinked is free
+/// before its retry. So a retry may end in another page than the uncut edit, with as many free.
+#[test]
+fn a_retry_may_take_the_page_that_the_cut_edit_unlinked() {
+    let edit = |bench: &mut Bench, limit| bench.edit(RW, 0x4000_0000, 0x400_1000, limit).unwrap();
+    let mut uncut = bench();
+    uncut.edit(RW, 0x4000_0000, 0x20_1000, 1536).unwrap();
+    let mut cut = Bench { words: uncut.words.clone(), ..uncut };
+    edit(&mut uncut, 1536);
+    assert_eq!(uncut.words[32..35], [0x0000_6000_AAAA_AAAA, 0x0000_6000_AAAA_AAAA, 0x0000_4000_0008_0002]);
+    edit(&mut cut, 1);
+    edit(&mut cut, 1536);
+    assert_eq!(cut.words[32..35], [0x0000_6000_AAAA_AAAA, 0x0000_6000_AAAA_AAAA, 0x0000_4000_0008_0001]);
+    assert_eq!((cut.free(), uncut.free()), (14, 14));
+}
+
 #[test]
 fn a_limit_of_zero_stores_nothing_and_asks_no_fence() {
     let mut bench = bench();

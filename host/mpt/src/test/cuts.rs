@@ -91,7 +91,8 @@ fn cut(trial: &mut Trial, whole: &Whole, limit: u64) -> Result<(), Failure> {
     trial.check(reads_as_before_or_after(trial.table(), &whole.before, &whole.after))
 }
 
-/// The last call does the rest: permissions and free pages are those of the uncut edit.
+/// The last call does the rest: permissions are those of the uncut edit, and as many pages are free.
+/// Not the same pages: what a cut call unlinks is free for the next.
 fn finish(trial: &mut Trial, whole: &Whole) -> Result<(), Failure> {
     again(trial, whole, u64::MAX)?;
     trial.check(reads_the_same(trial.table(), &whole.after))?;
