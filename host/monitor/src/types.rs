@@ -46,6 +46,11 @@ impl Register {
         PageNumber(self.0 & ((1 << 44) - 1))
     }
 
+    /// 0 Bare, 1 Smmpt46.
+    pub fn mode(self) -> u64 {
+        self.0 >> 60
+    }
+
     pub fn sdid(self) -> Sdid {
         Sdid(self.0 >> 54 & 63)
     }

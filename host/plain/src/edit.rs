@@ -24,11 +24,9 @@ pub fn edit(
     limit: u64,
     answer: &mut [u64],
 ) -> u64 {
-    let Ok(slots) = <&[u64; 8]>::try_from(slots) else { return OUTSIDE_KIND };
-    let Some(answer) = answer.first_chunk_mut::<5>() else { return OUTSIDE_KIND };
-    if permission > 3 {
+    let (Ok(slots), Some(answer), 0..=3) = (slots.try_into(), answer.first_chunk_mut(), permission) else {
         return OUTSIDE_KIND;
-    }
+    };
     let Some(lent) = Lent::new(paw, first, words.len()) else { return BAD_FRAME };
     let Some(used) = used_pages(lent, words, slots) else { return NOT_SOUND };
     if slot > 7 || slots[slot as usize] == 0 {
@@ -39,21 +37,12 @@ pub fn edit(
         return MEETS_LENT;
     }
     let register = slots[slot as usize];
-    let root = (register & PPN).wrapping_sub(first) as usize * 512;
+    let root = ((register & PPN) - first) as usize * 512;
     let mut edit = Edit { lent, words, root, from, to, permission, new: [0; 2], filled: 0, left: limit, last: 0 };
     if !edit.reserve(used) {
         return NO_PAGE;
     }
-    let all = edit.run().is_continue();
-    let made = limit - edit.left;
-    let in_root = (root..root + lent.blocks()).contains(&edit.last);
-    let sdid = sdid(register);
-    let fence = match made {
-        0 => [FENCE_NONE, 0, 0],
-        1 if all && length == 4096 && !in_root => [FENCE_ADDRESS, sdid, start],
-        _ => [FENCE_DOMAIN, sdid, 0],
-    };
-    *answer = [made, all as u64, fence[0], fence[1], fence[2]];
+    *answer = edit.answer(limit, sdid(register), start);
     DONE
 }
 
@@ -103,6 +92,19 @@ impl Edit<'_> {
     #[inline]
     fn span(&self, block: u64) -> Span {
         Span::of(block, self.from, self.to)
+    }
+
+    /// Runs, and says how many stores it made, whether these were all, and the fence.
+    fn answer(&mut self, limit: u64, sdid: u64, start: u64) -> [u64; 5] {
+        let all = self.run().is_continue();
+        let made = limit - self.left;
+        let in_root = (self.root..self.root + self.lent.blocks()).contains(&self.last);
+        let one_page = self.to - self.from == 1;
+        match made {
+            0 => [0, all as u64, FENCE_NONE, 0, 0],
+            1 if all && one_page && !in_root => [1, 1, FENCE_ADDRESS, sdid, start],
+            _ => [made, all as u64, FENCE_DOMAIN, sdid, 0],
+        }
     }
 
     fn run(&mut self) -> ControlFlow<()> {

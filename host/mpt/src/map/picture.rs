@@ -117,7 +117,8 @@ fn number_of(count: usize, what: &str) -> String {
 }
 
 fn domain(frame: second::Frame, table: &Table, slot: usize, register: Register) -> Domain {
-    let root = frame.page(table.words(), register.root().0);
+    // a lookup refuses any other MODE
+    let root = (register.mode() == 1).then(|| frame.page(table.words(), register.root().0)).flatten();
     let blocks = match root {
         Some(root) => root[..frame.blocks()].iter().map(|&entry| cell(frame, table.words(), entry)).collect(),
         None => vec![Cell::Faults; frame.blocks()],
@@ -207,12 +208,19 @@ pub mod tests {
     #[test]
     fn damage_is_shown() {
         let mut lines = CASE_C.to_vec();
-        lines.extend(["poke 0 0x500000000000", "poke 1 0x400000080001", "poke 512 0x8", "slot 3 0x1000000000000001"]);
+        lines.extend([
+            "poke 0 0x500000000000",
+            "poke 1 0x400000080001",
+            "poke 512 0x8",
+            "slot 3 0x1000000000000001",
+            "slot 4 0x2000000000080002",
+        ]);
         let picture = picture(&lines);
         assert_eq!(picture.domains[0].blocks[0], Cell::Faults);
         assert!(matches!(picture.domains[0].blocks[32], Cell::Pages(_, pieces) if pieces[0] == Piece::Faults));
         assert_eq!(picture.pages[1], Use::Twice);
-        assert_eq!(picture.domains[1].blocks[0], Cell::Faults);
+        assert_eq!(picture.domains[1].blocks[0], Cell::Faults, "the root is not lent");
+        assert_eq!(picture.domains[2].blocks[0], Cell::Faults, "MODE 2");
         assert!(!picture.sound);
     }
 

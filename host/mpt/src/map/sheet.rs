@@ -56,6 +56,13 @@ impl Sheet {
         ));
     }
 
+    /// A line that must not be missed.
+    pub fn warning(&mut self, x: f64, y: f64, size: f64, text: &str) {
+        self.line(format_args!(
+            r##"<text x="{x:.1}" y="{y:.1}" font-size="{size:.1}" font-weight="bold" fill="#b01010">{text}</text>"##
+        ));
+    }
+
     /// A letter in the middle of a box.
     pub fn letter(&mut self, place: Box, text: &str) {
         if !text.is_empty() {

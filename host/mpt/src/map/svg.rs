@@ -43,7 +43,11 @@ pub fn draw(picture: &Picture) -> String {
 fn heading(sheet: &mut Sheet, picture: &Picture) {
     sheet.text(LEFT, TOP, 64.0, "start", "Memory protection table");
     sheet.text(LEFT, TOP + 56.0, 32.0, "start", &picture.summary());
-    sheet.text(LEFT, TOP + 100.0, 32.0, "start", picture.verdict());
+    if picture.sound {
+        sheet.text(LEFT, TOP + 100.0, 32.0, "start", picture.verdict());
+    } else {
+        sheet.warning(LEFT, TOP + 100.0, 32.0, picture.verdict());
+    }
 }
 
 /// How the domains are laid out: columns, and the size of a cell.
@@ -104,7 +108,8 @@ fn panel(sheet: &mut Sheet, picture: &Picture, domain: &Domain, layout: &Layout,
         let (gib, block) = (number / GIB_BLOCKS, number % GIB_BLOCKS);
         let row = y + PANEL_HEAD + gib as f64 * layout.cell.height;
         if block == 0 {
-            let size = 26f64.min(layout.cell.height * 0.9);
+            // an address has eleven characters
+            let size = ((layout.label - 10.0) / 7.1).min(layout.cell.height * 0.9);
             sheet.text(
                 x,
                 row + layout.cell.height * 0.5 + size * 0.36,
@@ -201,48 +206,45 @@ fn draw_page(sheet: &mut Sheet, page: Use, place: Box, number: u64) {
 }
 
 fn legend(sheet: &mut Sheet, y: f64) {
-    use Permission::{None, Rw, Rwx, Rx};
-    let pieces = std::array::from_fn(|n| Permission::ALL[n / 4]);
-    let mut by_pages = [Piece::One(Rw); 16];
-    by_pages[5] = Piece::Mixed;
-    by_pages[6] = Piece::Mixed;
-    let cells: [(Cell, &str); 7] = [
-        (Cell::Whole(None), "none"),
-        (Cell::Whole(Rx), "rx: read, execute"),
-        (Cell::Whole(Rw), "rw: read, write"),
-        (Cell::Whole(Rwx), "rwx: all"),
-        (Cell::Pieces(pieces), "by pieces of 2 MiB"),
-        (Cell::Pages(0, by_pages), "by pages; hatched: mixed"),
-        (Cell::Faults, "faults: bad entry"),
-    ];
-    sheet.text(
-        LEFT,
-        y,
-        30.0,
-        "start",
-        "A cell is a block of 32 MiB, a row is a GiB. Its sixteenths are 2 MiB each, lowest at the upper left.",
-    );
-    for (nth, (cell, text)) in cells.iter().enumerate() {
+    let about = "A cell is a block of 32 MiB, a row is a GiB. Its sixteenths are 2 MiB each, lowest at the upper left.";
+    sheet.text(LEFT, y, 30.0, "start", about);
+    for (nth, (cell, text)) in legend_cells().iter().enumerate() {
         let place = legend_place(nth, y + 30.0);
         draw_cell(sheet, cell, place, 0);
+        if nth == 7 {
+            sheet.dot(place);
+        }
         sheet.text(place.x + 66.0, place.y + 36.0, 28.0, "start", text);
     }
-    let place = legend_place(7, y + 30.0);
-    draw_cell(sheet, &Cell::Whole(None), place, 0);
-    sheet.dot(place);
-    sheet.text(place.x + 66.0, place.y + 36.0, 28.0, "start", "holds lent pages");
-    let uses = [
-        (Use::Root(0), "root page of slot 0"),
-        (Use::L1(0), "L1 page of slot 0"),
-        (Use::Free, "free page"),
-        (Use::Twice, "page used twice"),
-    ];
-    for (nth, (page, text)) in uses.iter().enumerate() {
+    for (nth, (page, text)) in LEGEND_PAGES.iter().enumerate() {
         let place = Box { height: 40.0, ..legend_place(8 + nth, y + 30.0) };
         draw_page(sheet, *page, place, 0);
         sheet.text(place.x + 66.0, place.y + 30.0, 28.0, "start", text);
     }
 }
+
+fn legend_cells() -> [(Cell, &'static str); 8] {
+    let pieces = std::array::from_fn(|n| Permission::ALL[n / 4]);
+    let mut by_pages = [Piece::One(Permission::Rw); 16];
+    by_pages[5..7].fill(Piece::Mixed);
+    [
+        (Cell::Whole(Permission::None), "none"),
+        (Cell::Whole(Permission::Rx), "rx: read, execute"),
+        (Cell::Whole(Permission::Rw), "rw: read, write"),
+        (Cell::Whole(Permission::Rwx), "rwx: all"),
+        (Cell::Pieces(pieces), "by pieces of 2 MiB"),
+        (Cell::Pages(0, by_pages), "by pages; hatched: mixed"),
+        (Cell::Faults, "faults: bad entry"),
+        (Cell::Whole(Permission::None), "dot: holds lent pages"),
+    ]
+}
+
+const LEGEND_PAGES: [(Use, &str); 4] = [
+    (Use::Root(0), "root page of slot 0"),
+    (Use::L1(0), "L1 page of slot 0"),
+    (Use::Free, "free page"),
+    (Use::Twice, "page used twice"),
+];
 
 /// Four to a row.
 fn legend_place(nth: usize, y: f64) -> Box {

@@ -1,5 +1,6 @@
 //! Demand 3: an edit cut anywhere, and done again.
 
+use super::generate::{lookup, Places};
 use super::reading::{frame, free_count, reads_as_asked, reads_as_before_or_after, reads_the_same};
 use super::trial::{Failure, Trial};
 use crate::command::Command;
@@ -37,7 +38,7 @@ fn left(table: &Table, edit: Edit) -> u64 {
 }
 
 /// A few cuts at places that matter, then the finish.
-pub fn some_cuts(trial: &mut Trial, random: &mut Random, edit: Edit) -> Result<(), Failure> {
+pub fn some_cuts(trial: &mut Trial, random: &mut Random, places: &Places, edit: Edit) -> Result<(), Failure> {
     let Some(whole) = begin(trial, edit)? else { return Ok(()) };
     for _ in 0..1 + random.below(5) {
         let left = left(trial.table(), edit);
@@ -50,6 +51,8 @@ pub fn some_cuts(trial: &mut Trial, random: &mut Random, edit: Edit) -> Result<(
             _ => random.below(left + 1),
         };
         cut(trial, &whole, at)?;
+        let lookup = lookup(random, trial.table(), places);
+        trial.obey(lookup)?;
     }
     finish(trial, &whole)
 }

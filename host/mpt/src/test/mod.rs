@@ -98,7 +98,7 @@ fn step(trial: &mut Trial, programs: &[Program], random: &mut Random, places: &P
     match random.below(1000) {
         0..=99 => {
             let edit = generate::edit(random, table, places);
-            return cuts::some_cuts(trial, random, edit);
+            return cuts::some_cuts(trial, random, places, edit);
         }
         100 => {
             let edit = generate::edit(random, table, places);
