@@ -4,7 +4,7 @@ use crate::command::parse;
 use crate::options::Options;
 use crate::output;
 use crate::programs::{proved_or, Program, PLAIN, SECOND};
-use crate::session::{Outcome, Session};
+use crate::sides::{Outcome, Sides};
 
 /// A case: the memory it begins with, and its questions.
 struct Case {
@@ -155,27 +155,27 @@ fn print_row<'a>(case: &str, asked: &str, paper: &str, answers: impl Iterator<It
 
 /// Each question with the answers of the programs; the case's name stands at its first.
 fn run<'a>(case: &'a Case, programs: &[Program]) -> Vec<(&'a str, Step, Vec<String>)> {
-    let mut sessions: Vec<Session> = programs.iter().map(|&program| opened(program, case.pages)).collect();
+    let mut benches: Vec<Sides> = programs.iter().map(|&program| opened(program, case.pages)).collect();
     let names = std::iter::once(case.name).chain(std::iter::repeat(""));
     let ask = |&(asked, answer): &Step| {
-        let answers = sessions.iter_mut().map(|session| self::ask(session, asked)).collect();
+        let answers = benches.iter_mut().map(|sides| self::ask(sides, asked)).collect();
         ((asked, answer), answers)
     };
     let asked: Vec<_> = case.steps.iter().map(ask).collect();
     names.zip(asked).map(|(name, (step, answers))| (name, step, answers)).collect()
 }
 
-fn opened(program: Program, pages: usize) -> Session {
-    let mut session = Session::new(&[program]);
-    ask(&mut session, &format!("frame 32 0x80000 {pages}"));
-    let register = ask(&mut session, "open 0 5");
+fn opened(program: Program, pages: usize) -> Sides {
+    let mut sides = Sides::new(&[program]);
+    ask(&mut sides, &format!("frame 32 0x80000 {pages}"));
+    let register = ask(&mut sides, "open 0 5");
     if register != OPENED {
         eprintln!("mpt: {}: `open 0 5` gave `{register}`; document 01 says `{OPENED}`", program.name);
     }
-    session
+    sides
 }
 
-fn ask(session: &mut Session, asked: &str) -> String {
+fn ask(sides: &mut Sides, asked: &str) -> String {
     let line = match asked.strip_prefix("look ") {
         Some(rest) => {
             let (kind, address) = rest.split_once(' ').expect("a kind and an address");
@@ -184,7 +184,7 @@ fn ask(session: &mut Session, asked: &str) -> String {
         None => asked.to_string(),
     };
     let command = parse(&line).expect("a case is in the language of run").expect("a case is no comment");
-    match session.obey(&command) {
+    match sides.obey(&command) {
         Outcome::Answer(answer) => shortened(&answer),
         Outcome::Error(text) | Outcome::Differ(text) => text,
     }

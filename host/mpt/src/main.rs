@@ -10,14 +10,14 @@ mod output;
 mod programs;
 mod random;
 mod run;
-mod session;
+mod sides;
 mod test;
 
 use options::Options;
 use std::process::ExitCode;
 
 fn main() -> ExitCode {
-    let mut words = std::env::args().skip(1);
+    let mut words = std::env::args_os().skip(1).map(|word| word.to_string_lossy().into_owned());
     let name = words.next().unwrap_or_default();
     let options = Options::new(words.collect());
     let status = match name.as_str() {

@@ -25,8 +25,8 @@ pub fn main(mut options: Options) -> Result<u8, String> {
         (Some(_), Some(_)) => return Err("--image and a FILE of commands can't be asked for together".to_string()),
         (Some(image), None) => saved(&image)?,
         (None, _) => {
-            let session = end_state(programs[0], file.as_deref())?;
-            session.table().cloned().ok_or("the commands make no frame; begin with `frame PAW FIRST PAGES`")?
+            let sides = end_state(programs[0], file.as_deref())?;
+            sides.table().cloned().ok_or("the commands make no frame; begin with `frame PAW FIRST PAGES`")?
         }
     };
     let picture = Picture::of(&table)?;

@@ -176,14 +176,14 @@ pub mod tests {
     use super::*;
     use crate::command::parse;
     use crate::programs::SECOND;
-    use crate::session::Session;
+    use crate::sides::Sides;
 
     pub fn picture(lines: &[&str]) -> Picture {
-        let mut session = Session::new(&[SECOND]);
+        let mut sides = Sides::new(&[SECOND]);
         for line in lines {
-            session.obey(&parse(line).unwrap().unwrap());
+            sides.obey(&parse(line).unwrap().unwrap());
         }
-        Picture::of(session.table().unwrap()).ok().unwrap()
+        Picture::of(sides.table().unwrap()).ok().unwrap()
     }
 
     const CASE_C: [&str; 3] = ["frame 32 0x80000 16", "open 0 5", "edit 0 0x40000000 0x1000 rw 1536"];
@@ -226,8 +226,8 @@ pub mod tests {
 
     #[test]
     fn a_broken_frame_has_no_picture() {
-        let mut session = Session::new(&[SECOND]);
-        session.obey(&parse("frame 29 1 2").unwrap().unwrap());
-        assert!(Picture::of(session.table().unwrap()).is_err_and(|why| why.contains("PAW 29")));
+        let mut sides = Sides::new(&[SECOND]);
+        sides.obey(&parse("frame 29 1 2").unwrap().unwrap());
+        assert!(Picture::of(sides.table().unwrap()).is_err_and(|why| why.contains("PAW 29")));
     }
 }

@@ -3,7 +3,7 @@
 use super::tally::Tally;
 use crate::command::Command;
 use crate::programs::Program;
-use crate::session::{Outcome, Session};
+use crate::sides::{Outcome, Sides};
 use mpt_monitor::Table;
 use std::cell::RefCell;
 use std::panic::{catch_unwind, AssertUnwindSafe};
@@ -11,7 +11,7 @@ use std::rc::Rc;
 
 #[derive(Clone)]
 pub struct Trial {
-    session: Session,
+    sides: Sides,
     history: History,
     pub tally: Tally,
 }
@@ -37,19 +37,19 @@ pub struct Failure {
 
 impl Trial {
     pub fn new(programs: &[Program]) -> Trial {
-        Trial { session: Session::new(programs), history: None, tally: Tally::default() }
+        Trial { sides: Sides::new(programs), history: None, tally: Tally::default() }
     }
 
     /// The table, the same on all sides.
     pub fn table(&self) -> &Table {
-        self.session.table().expect("a trial begins with its frame")
+        self.sides.table().expect("a trial begins with its frame")
     }
 
     /// Obeys on all sides; the programs must agree on the answer, every word and every slot.
     pub fn obey(&mut self, command: Command) -> Result<String, Failure> {
         self.history = Some(Rc::new(Step { command: command.clone(), before: self.history.take() }));
         NEWEST.set(self.history.clone());
-        match self.session.obey(&command) {
+        match self.sides.obey(&command) {
             Outcome::Answer(answer) => {
                 if is_call(&command) {
                     self.tally.count(&answer);

@@ -8,7 +8,7 @@ use std::fs;
 
 /// One or more programs, each with its own table.
 #[derive(Clone)]
-pub struct Session {
+pub struct Sides {
     sides: Vec<Side>,
 }
 
@@ -28,10 +28,10 @@ pub enum Outcome {
     Differ(String),
 }
 
-impl Session {
-    pub fn new(programs: &[Program]) -> Session {
+impl Sides {
+    pub fn new(programs: &[Program]) -> Sides {
         let side = |&program: &Program| Side { program, table: None };
-        Session { sides: programs.iter().map(side).collect() }
+        Sides { sides: programs.iter().map(side).collect() }
     }
 
     /// The first program's table.
@@ -51,7 +51,7 @@ impl Session {
         if let Some(difference) = self.tables_differ() {
             return Outcome::Differ(difference);
         }
-        match answers.into_iter().next().expect("a session has a program") {
+        match answers.into_iter().next().expect("there is a program") {
             Ok(answer) => Outcome::Answer(answer),
             Err(error) => Outcome::Error(error),
         }
@@ -200,22 +200,21 @@ mod tests {
     use crate::programs::{PLAIN, SECOND};
     use mpt_monitor::Interface;
 
-    fn run(session: &mut Session, line: &str) -> Outcome {
-        session.obey(&parse(line).unwrap().unwrap())
+    fn run(sides: &mut Sides, line: &str) -> Outcome {
+        sides.obey(&parse(line).unwrap().unwrap())
     }
 
     #[test]
     fn commands_before_a_frame_are_errors() {
-        let mut session = Session::new(&[SECOND]);
-        assert!(matches!(run(&mut session, "sum"), Outcome::Error(text) if text.contains("frame")));
+        let mut sides = Sides::new(&[SECOND]);
+        assert!(matches!(run(&mut sides, "sum"), Outcome::Error(text) if text.contains("frame")));
     }
 
     #[test]
     fn raw_reads_and_writes() {
-        let mut session = Session::new(&[SECOND, PLAIN]);
-        let mut expect = |line: &str, answer: &str| {
-            assert_eq!(run(&mut session, line), Outcome::Answer(answer.to_string()), "{line}")
-        };
+        let mut sides = Sides::new(&[SECOND, PLAIN]);
+        let mut expect =
+            |line: &str, answer: &str| assert_eq!(run(&mut sides, line), Outcome::Answer(answer.to_string()), "{line}");
         expect("frame 32 0x80000 2", "ok");
         // by zlib, over 64 + 8,192 zero bytes
         expect("sum", "45d57ebb");
@@ -229,7 +228,7 @@ mod tests {
         expect("free", "free 1");
         expect("close 0", "closed fence domain 5");
         for line in ["poke 1024 0", "peek 1023 2", "peek 0 0", "peek 18446744073709551615 2"] {
-            assert!(matches!(run(&mut session, line), Outcome::Error(_)), "{line}");
+            assert!(matches!(run(&mut sides, line), Outcome::Error(_)), "{line}");
         }
     }
 
@@ -277,14 +276,14 @@ mod tests {
     #[test]
     fn a_difference_is_seen_in_the_answer_and_in_the_words() {
         let slip = Program { name: "slip", interface: &Miscounts };
-        let mut session = Session::new(&[slip, SECOND]);
-        run(&mut session, "frame 32 0x80000 2");
-        run(&mut session, "open 0 5");
-        let edit = run(&mut session, "edit 0 0x40000000 0x40000000 rw 7");
+        let mut sides = Sides::new(&[slip, SECOND]);
+        run(&mut sides, "frame 32 0x80000 2");
+        run(&mut sides, "open 0 5");
+        let edit = run(&mut sides, "edit 0 0x40000000 0x40000000 rw 7");
         let both = "slip: edited 8 part fence domain 5\nsecond: edited 7 part fence domain 5";
         assert_eq!(edit, Outcome::Differ(both.to_string()));
-        run(&mut session, "frame 32 0x80000 2");
+        run(&mut sides, "frame 32 0x80000 2");
         let both = "slip: word 600 is 0000000000000003\nsecond: word 600 is 0000000000000000";
-        assert_eq!(run(&mut session, "open 3 5"), Outcome::Differ(both.to_string()));
+        assert_eq!(run(&mut sides, "open 3 5"), Outcome::Differ(both.to_string()));
     }
 }
