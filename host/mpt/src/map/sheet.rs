@@ -1,0 +1,93 @@
+//! A sheet of A4 in SVG.
+
+use std::fmt::Write;
+
+#[derive(Clone, Copy, Debug)]
+pub struct Box {
+    pub x: f64,
+    pub y: f64,
+    pub width: f64,
+    pub height: f64,
+}
+
+impl Box {
+    /// The same box, smaller by `by` on each side.
+    pub fn inset(self, by: f64) -> Box {
+        Box { x: self.x + by, y: self.y + by, width: self.width - 2.0 * by, height: self.height - 2.0 * by }
+    }
+}
+
+pub struct Sheet {
+    text: String,
+}
+
+const HEAD: &str = r##"<svg xmlns="http://www.w3.org/2000/svg" width="210mm" height="297mm" viewBox="0 0 2100 2970" font-family="DejaVu Sans, Liberation Sans, Arial, sans-serif">
+<defs><pattern id="mixed" width="6" height="6" patternUnits="userSpaceOnUse" patternTransform="rotate(45)"><rect width="6" height="6" fill="#ffffff"/><rect width="2.4" height="6" fill="#202020"/></pattern></defs>
+<rect width="2100" height="2970" fill="#ffffff"/>
+"##;
+
+impl Sheet {
+    pub fn new() -> Sheet {
+        Sheet { text: HEAD.to_string() }
+    }
+
+    pub fn end(mut self) -> String {
+        self.text += "</svg>\n";
+        self.text
+    }
+
+    fn line(&mut self, line: std::fmt::Arguments) {
+        self.text.write_fmt(line).expect("a string takes all");
+        self.text.push('\n');
+    }
+
+    /// What follows, to its end, shows a title where a pointer rests on it.
+    pub fn begin_group(&mut self, title: &str) {
+        self.line(format_args!("<g><title>{title}</title>"));
+    }
+
+    pub fn end_group(&mut self) {
+        self.line(format_args!("</g>"));
+    }
+
+    pub fn text(&mut self, x: f64, y: f64, size: f64, anchor: &str, text: &str) {
+        self.line(format_args!(
+            r##"<text x="{x:.1}" y="{y:.1}" font-size="{size:.1}" text-anchor="{anchor}" fill="#202020">{text}</text>"##
+        ));
+    }
+
+    /// A line that must not be missed.
+    pub fn warning(&mut self, x: f64, y: f64, size: f64, text: &str) {
+        self.line(format_args!(
+            r##"<text x="{x:.1}" y="{y:.1}" font-size="{size:.1}" font-weight="bold" fill="#b01010">{text}</text>"##
+        ));
+    }
+
+    /// A letter in the middle of a box.
+    pub fn letter(&mut self, place: Box, text: &str) {
+        if !text.is_empty() {
+            let size = (place.height * 0.62).min(place.width * 0.8).min(28.0);
+            self.text(place.x + place.width / 2.0, place.y + place.height / 2.0 + size * 0.36, size, "middle", text);
+        }
+    }
+
+    pub fn rectangle(&mut self, place: Box, fill: &str, stroke: &str, width: f64) {
+        let Box { x, y, width: w, height: h } = place;
+        self.line(format_args!(r#"<rect x="{x:.2}" y="{y:.2}" width="{w:.2}" height="{h:.2}" fill="{fill}" stroke="{stroke}" stroke-width="{width}"/>"#));
+    }
+
+    /// A box without an edge, so that neighbours meet.
+    pub fn fill(&mut self, place: Box, fill: &str) {
+        let Box { x, y, width: w, height: h } = place;
+        self.line(format_args!(
+            r#"<rect x="{x:.2}" y="{y:.2}" width="{w:.2}" height="{h:.2}" fill="{fill}" shape-rendering="crispEdges"/>"#
+        ));
+    }
+
+    /// A dot in the upper right corner of a box.
+    pub fn dot(&mut self, place: Box) {
+        let radius = (place.width.min(place.height) * 0.16).min(7.0);
+        let (x, y) = (place.x + place.width - 2.0 * radius, place.y + 2.0 * radius);
+        self.line(format_args!(r##"<circle cx="{x:.2}" cy="{y:.2}" r="{radius:.2}" fill="#202020"/>"##));
+    }
+}

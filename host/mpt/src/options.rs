@@ -1,0 +1,103 @@
+//! The command line after the first word.
+
+use crate::programs::{proved_or, Program, PLAIN, PROVED, SECOND};
+
+/// Flags by name, and the other words in order.
+pub struct Options {
+    words: Vec<String>,
+}
+
+impl Options {
+    pub fn new(words: Vec<String>) -> Options {
+        Options { words }
+    }
+
+    /// Takes a flag away if it is there.
+    pub fn flag(&mut self, name: &str) -> bool {
+        let found = self.words.iter().position(|word| word == name);
+        found.map(|at| self.words.remove(at)).is_some()
+    }
+
+    /// Takes a flag and the words after it, which are called `what`.
+    pub fn values<const N: usize>(&mut self, name: &str, what: &str) -> Result<Option<[String; N]>, String> {
+        let Some(at) = self.words.iter().position(|word| word == name) else { return Ok(None) };
+        if self.words.len() - at - 1 < N {
+            return Err(format!("{name} needs {what} after it"));
+        }
+        let values: Vec<String> = self.words.drain(at..=at + N).skip(1).collect();
+        Ok(values.try_into().ok())
+    }
+
+    /// Takes a flag and the word after it.
+    pub fn value(&mut self, name: &str) -> Result<Option<String>, String> {
+        Ok(self.values::<1>(name, "a value")?.map(|[value]| value))
+    }
+
+    /// Takes a flag and the number after it.
+    pub fn number(&mut self, name: &str) -> Result<Option<u64>, String> {
+        let Some(text) = self.value(name)? else { return Ok(None) };
+        crate::command::number(&text).map(Some).map_err(|why| format!("{name} `{text}` {why}"))
+    }
+
+    /// Takes the next word that is no flag.
+    pub fn word(&mut self) -> Option<String> {
+        let at = self.words.iter().position(|word| !word.starts_with("--"))?;
+        Some(self.words.remove(at))
+    }
+
+    /// All words must be taken by now.
+    pub fn end(self) -> Result<(), String> {
+        match self.words.first() {
+            None => Ok(()),
+            Some(word) => Err(format!("`{word}` is not known here; see `mpt help`")),
+        }
+    }
+
+    /// The programs asked for by --proved, --second, --plain or --both; `default` if none.
+    pub fn programs(&mut self, default: fn() -> Vec<Program>) -> Result<Vec<Program>, String> {
+        let names = ["--proved", "--second", "--plain", "--both"];
+        let asked: Vec<&str> = names.into_iter().filter(|name| self.flag(name)).collect();
+        match asked[..] {
+            [] => Ok(default()),
+            ["--second"] => Ok(vec![SECOND]),
+            ["--plain"] => Ok(vec![PLAIN]),
+            ["--both"] => Ok(vec![proved_or(PLAIN), SECOND]),
+            ["--proved"] => match PROVED {
+                Some(program) => Ok(vec![program]),
+                None => Err("--proved: this mpt was built without the feature `proved`".to_string()),
+            },
+            _ => Err(format!("{} can't be asked for together", asked.join(" and "))),
+        }
+    }
+}
+
+#[cfg(test)]
+mod tests {
+    use super::*;
+
+    fn options(line: &str) -> Options {
+        Options::new(line.split_whitespace().map(str::to_string).collect())
+    }
+
+    #[test]
+    fn flags_values_and_words_in_any_order() {
+        let mut taken = options("--seed 0x10 file --svg out --second");
+        assert_eq!(taken.number("--seed"), Ok(Some(16)));
+        assert_eq!(taken.value("--svg"), Ok(Some("out".to_string())));
+        assert_eq!(taken.programs(Vec::new).unwrap()[0].name, "second");
+        assert_eq!(taken.word(), Some("file".to_string()));
+        assert_eq!(taken.end(), Ok(()));
+    }
+
+    #[test]
+    fn what_is_wrong_is_named() {
+        assert!(options("--image a 1")
+            .values::<3>("--image", "FILE PAW FIRST")
+            .unwrap_err()
+            .contains("FILE PAW FIRST"));
+        assert!(options("--seed").number("--seed").unwrap_err().contains("--seed"));
+        assert!(options("--seed x").number("--seed").unwrap_err().contains("`x`"));
+        assert!(options("--colour").end().unwrap_err().contains("--colour"));
+        assert!(options("--second --plain").programs(Vec::new).is_err());
+    }
+}
