@@ -9,27 +9,14 @@ use monitor::Reply;
 use table::Fence;
 use table::Frame;
 use table::PageNumber;
-use table::Refusal;
 use table::Sdid;
+use table::number::of_refusal;
 ghost use Prim.Native.Nat.{_≤_, _<_};
 
 fn frame() -> Frame {
     Frame {
         paw: 32,
         first: PageNumber(0x80000),
-    }
-}
-
-fn refusal_number(r: Refusal) -> u64 {
-    match r {
-        Refusal::Frame => 1,
-        Refusal::Register => 2,
-        Refusal::NotSound => 3,
-        Refusal::Slot => 4,
-        Refusal::Range => 5,
-        Refusal::LentPages => 6,
-        Refusal::NoRoom => 7,
-        Refusal::Sdid => 8,
     }
 }
 
@@ -44,7 +31,7 @@ fn number(what: &[u8], n: u64) {
 
 fn say_reply(reply: Reply) {
     match reply {
-        Reply::Refused(r) => number(b": refused ", refusal_number(r)),
+        Reply::Refused(r) => number(b": refused ", of_refusal(r)),
         Reply::Opened => text(b": opened"),
         Reply::Closed => text(b": closed"),
     }
