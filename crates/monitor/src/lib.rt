@@ -6,6 +6,7 @@ use crate::page::zero_page;
 use crate::slots::bad_sdid;
 use crate::slots::not_empty;
 use crate::slots::not_open;
+pub use lookup::lookup;
 use sound::check;
 use sound::pick::free_pages;
 use table::Fence;
