@@ -1,4 +1,4 @@
--- `sound::root` meets its contract.
+-- `sound::root` meets its contract: the root is claimed before its entries are read, so it is lent, and its words are its entries.
 use mathlib.Core.Path.{_≡_, ap, _∙_}
 use mathlib.Core.Bool.{true}
 use Prim.Native.Nat.{ℕ}
