@@ -19,7 +19,6 @@ use table::register;
 ghost use mathlib.Core.Path.{_≡_};
 ghost use mathlib.Core.Bool.{true};
 ghost use Prim.Native.Nat.{_<_};
-ghost use lib.ListN.{length};
 ghost use Rattle.model.specs.Frame as frame;
 ghost use Rattle.model.specs.Calls as calls;
 ghost use Rattle.table.specs.Views.{frameOf};

@@ -9,7 +9,7 @@ use table::register;
 use table::word;
 ghost use mathlib.Core.Path.{_≡_};
 ghost use mathlib.Core.Bool.{true, false};
-ghost use Prim.Native.Nat.{_+_, _<_, _≤_};
+ghost use Prim.Native.Nat.{_+_, _≤_};
 ghost use lib.ListN.{length, getD, replicate};
 ghost use Rattle.model.specs.Numbers.{every};
 ghost use Rattle.model.specs.Layout.{rv64};
