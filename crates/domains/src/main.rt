@@ -6,30 +6,23 @@ use io::write_all;
 use libc::STDOUT_FILENO;
 use monitor::Outcome;
 use monitor::Reply;
+use table::Access;
+use table::Address;
+use table::Answer;
 use table::Fence;
 use table::Frame;
+use table::Kind;
 use table::PageNumber;
-use table::Refusal;
+use table::Privilege;
 use table::Sdid;
+use table::number::of_cause;
+use table::number::of_refusal;
 ghost use Prim.Native.Nat.{_≤_, _<_};
 
 fn frame() -> Frame {
     Frame {
         paw: 32,
         first: PageNumber(0x80000),
-    }
-}
-
-fn refusal_number(r: Refusal) -> u64 {
-    match r {
-        Refusal::Frame => 1,
-        Refusal::Register => 2,
-        Refusal::NotSound => 3,
-        Refusal::Slot => 4,
-        Refusal::Range => 5,
-        Refusal::LentPages => 6,
-        Refusal::NoRoom => 7,
-        Refusal::Sdid => 8,
     }
 }
 
@@ -44,7 +37,7 @@ fn number(what: &[u8], n: u64) {
 
 fn say_reply(reply: Reply) {
     match reply {
-        Reply::Refused(r) => number(b": refused ", refusal_number(r)),
+        Reply::Refused(r) => number(b": refused ", of_refusal(r)),
         Reply::Opened => text(b": opened"),
         Reply::Closed => text(b": closed"),
     }
@@ -108,6 +101,20 @@ fn close(words: &[u64; 4096], slots: [u64; 8], slot: u64) -> [u64; 8] {
     close_in(frame(), words, slots, slot)
 }
 
+// Bench case A: a load on the domain of slot 0.
+fn load(words: &[u64; 4096], slots: [u64; 8], a: u64) {
+    text(b"load 0x");
+    print_hex(STDOUT_FILENO, a, 1);
+    let kind = Kind::Itself(Access::Load);
+    let register = slots[0];
+    match monitor::lookup(frame(), words, register, Privilege::User, kind, Address(a)) {
+        Answer::Allowed => text(b": allowed"),
+        Answer::Fault(c) => number(b": fault ", of_cause(c)),
+        Answer::Refused(r) => number(b": refused ", of_refusal(r)),
+    }
+    text(b"\n");
+}
+
 fn one_if_set(word: u64) -> u64
     ensures { λ r. ⌜ r ≤ 1 ⌝ }
 {
@@ -143,6 +150,7 @@ fn fill(words: &mut [u64; 4096], slots: [u64; 8]) -> [u64; 8] {
     let slots = open(words, slots, 0, 5);
     count(words, 0);
     count(words, 1);
+    load(words, slots, 0x4000_0000);
     let slots = open(words, slots, 0, 1);
     let slots = open(words, slots, 8, 1);
     let slots = open(words, slots, 1, 0);

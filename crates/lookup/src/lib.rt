@@ -15,7 +15,6 @@ use table::word;
 ghost use mathlib.Core.Path.{_≡_};
 ghost use mathlib.Core.Bool.{true};
 ghost use Prim.Native.Nat.{_<_};
-ghost use lib.ListN.{length};
 ghost use Rattle.model.specs.Frame.{boundsOk};
 ghost use Rattle.model.specs.Walk as walk;
 ghost use Rattle.model.specs.Access as access;

@@ -8,36 +8,15 @@ use lookup::lookup;
 use table::Access;
 use table::Address;
 use table::Answer;
-use table::Cause;
 use table::Frame;
 use table::Kind;
 use table::PageNumber;
 use table::Privilege;
-use table::Refusal;
+use table::number::of_cause;
+use table::number::of_refusal;
 
 // Slot 0 opened with SDID 5 at page 0x80000.
 const REGISTER: u64 = 0x1140_0000_0008_0000;
-
-fn cause_number(c: Cause) -> u64 {
-    match c {
-        Cause::Fetch => 1,
-        Cause::Load => 5,
-        Cause::Store => 7,
-    }
-}
-
-fn refusal_number(r: Refusal) -> u64 {
-    match r {
-        Refusal::Frame => 1,
-        Refusal::Register => 2,
-        Refusal::NotSound => 3,
-        Refusal::Slot => 4,
-        Refusal::Range => 5,
-        Refusal::LentPages => 6,
-        Refusal::NoRoom => 7,
-        Refusal::Sdid => 8,
-    }
-}
 
 fn numbered(what: &[u8], n: u64) {
     write_all(STDOUT_FILENO, what);
@@ -54,8 +33,8 @@ fn say(what: &[u8], a: u64, answer: Answer) {
         Answer::Allowed => {
             write_all(STDOUT_FILENO, b": allowed\n");
         }
-        Answer::Fault(c) => numbered(b": fault ", cause_number(c)),
-        Answer::Refused(r) => numbered(b": refused ", refusal_number(r)),
+        Answer::Fault(c) => numbered(b": fault ", of_cause(c)),
+        Answer::Refused(r) => numbered(b": refused ", of_refusal(r)),
     }
 }
 

@@ -1,7 +1,7 @@
 -- What callers use: free pages are lent; what the check says; its marks give the free pages.
 use mathlib.Core.Path.{_≡_, refl, sym, ap, ap₂, _∙_}
 use mathlib.Core.Bool.{Bool, true, false, _&&_, true≢false}
-use mathlib.Core.List.{List, [], _∷_, headD}
+use mathlib.Core.List.{List, [], _∷_, headD, tail}
 use Prim.Native.Nat.{ℕ, zero, suc, _+_, _-_, _≤_, _<_}
 use native.Mathlib.Omega.{arith}
 use lib.Dec.{eqb}
@@ -36,11 +36,16 @@ free-lent F used = joined-lent F _ (F .pages) (F .first) (λ page low high. go p
     go page true h = refl
     go page false h = each-step (lent F) page [] ∙ ap (λ (b : Bool). b && true) h
 
--- and so is the lowest, if there is one
+-- and so is the lowest, if there is one, and each of the others
 pub head-lent : (F : Frame) (pages : List ℕ) → eqb (length pages) 0 ≡ false → each (lent F) pages ≡ true → lent F (headD pages 0) ≡ true
 unfolding headD
 head-lent F [] some h = absurd (true≢false some)
 head-lent F (page ∷ pages) some h = both (lent F page) (each (lent F) pages) (sym (each-step (lent F) page pages) ∙ h) .0
+
+pub tail-lent : (F : Frame) (pages : List ℕ) → each (lent F) pages ≡ true → each (lent F) (tail pages) ≡ true
+unfolding each
+tail-lent F [] h = refl
+tail-lent F (page ∷ pages) h = both (lent F page) (each (lent F) pages) (sym (each-step (lent F) page pages) ∙ h) .1
 
 -- ---- what the check says
 

@@ -8,10 +8,9 @@ use native.Mathlib.Numerals.{add-one}
 use native.Mathlib.Omega.{arith}
 use lib.ListN.{length, getD, drop, drop-of-length-le}
 use lib.Seq.{drop-cons}
-use Rattle.model.specs.Entry.{decode}
 use Rattle.model.specs.Frame.{Frame, lent, indexOf}
 use Rattle.table.proofs.Frames.{entry-at}
-use Rattle.sound.specs.Scan.{Scan, unsound, marked, andThen, scanAll, scanRun, claimOf, entryStep, blockStep}
+use Rattle.sound.specs.Scan.{Scan, unsound, marked, andThen, scanAll, scanRun, claimOf, entryStep, wordStep, blockStep}
 
 module _ (step : List Bool → ℕ → Scan) (k : List Bool) where
   -- ---- a list
@@ -64,9 +63,6 @@ claimed-lent F k page {j} said = go (lent F page) refl
     go false q = let bad : marked j ≡ unsound = said ∙ rw q in cc
 
 -- ---- the words of a root, from word r on, are its entries
-
-abbrev pub wordStep : Frame → List ℕ → ℕ → List Bool → ℕ → Scan
-wordStep F m r k b = entryStep F m k (decode (F .layout) (getD m (r + b) 0))
 
 pub words-are-entries : (F : Frame) (m : List ℕ) (root r n : ℕ) (k : List Bool) → lent F root ≡ true → r ≡ indexOf F root 0
     → scanRun (wordStep F m r) k n 0 ≡ scanRun (blockStep F m root) k n 0

@@ -1,13 +1,13 @@
 -- The pass over a table as the code makes it, with marks of the pages in use: what the contracts of its functions cite.
 use mathlib.Core.Bool.{Bool, true, false}
 use mathlib.Core.List.{List, [], _∷_}
-use Prim.Native.Nat.{ℕ, zero, suc, _-_}
+use Prim.Native.Nat.{ℕ, zero, suc, _+_, _-_}
 use lib.Dec.{eqb}
 use lib.ListN.{getD, set, replicate}
 use Rattle.model.specs.Numbers.{if_then_else_}
 use Rattle.model.specs.Layout.{rv64}
 use Rattle.model.specs.Register.{ppnOf, wpriOf, sdidOf, modeOf}
-use Rattle.model.specs.Entry.{Entry, flat, pieces, table, invalid}
+use Rattle.model.specs.Entry.{Entry, flat, pieces, table, invalid, decode}
 use Rattle.model.specs.Frame.{Frame, blocks, lent}
 use Rattle.model.specs.Walk.{entryAt}
 use Rattle.model.specs.Sound.{Slot, register, isOpen, roots, used, cleanPage, sound}
@@ -75,6 +75,10 @@ module _ (F : Frame) where
     entryStep marks (pieces info) = marked marks
     entryStep marks (table page) = linkStep marks page
     entryStep marks invalid = unsound
+
+    -- the entries whose words start at word at
+    abbrev pub wordStep : ℕ → List Bool → ℕ → Scan
+    wordStep at marks b = entryStep marks (decode (F .layout) (getD m (at + b) 0))
 
     -- a root's entries, and before them the root itself
     abbrev pub blockStep : ℕ → List Bool → ℕ → Scan

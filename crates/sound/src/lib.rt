@@ -9,14 +9,14 @@ use table::register;
 use table::word;
 ghost use mathlib.Core.Path.{_≡_};
 ghost use mathlib.Core.Bool.{true, false};
-ghost use Prim.Native.Nat.{_+_, _<_, _≤_};
+ghost use Prim.Native.Nat.{_+_, _≤_};
 ghost use lib.ListN.{length, getD, replicate};
 ghost use Rattle.model.specs.Numbers.{every};
 ghost use Rattle.model.specs.Layout.{rv64};
 ghost use Rattle.model.specs.Entry as entry;
-ghost use Rattle.model.specs.Frame.{boundsOk, blocks, lent};
+ghost use Rattle.model.specs.Frame.{boundsOk};
 ghost use Rattle.table.specs.Views.{frameOver, frameOf, entryOf};
-ghost use Rattle.sound.specs.Scan.{answer, scanAll, scanRun, claimOf, linkStep, entryStep, blockStep, rootStep, slotStep, registerStep, refusedCheck, checkedOf};
+ghost use Rattle.sound.specs.Scan.{answer, scanAll, scanRun, claimOf, linkStep, entryStep, wordStep, rootStep, slotStep, registerStep, refusedCheck, checkedOf};
 
 // Whether the table is sound, and if so, a mark for each lent page that is in use.
 pub struct Checked {
@@ -82,13 +82,11 @@ fn entry(f: Frame, words: &[u64], e: Entry, used: &mut [bool; 256]) -> bool
     }
 }
 
-// "The first 2^(PAW-25) entries" of a root; "the rest of the page is never read".
-fn entries(f: Frame, words: &[u64], root: PageNumber, used: &mut [bool; 256]) -> bool
-    requires { ⌜ (boundsOk (frameOf f (now words)) ≡ true) × (lent (frameOf f (now words)) (root .0) ≡ true) ⌝ }
-    ensures { λ r. ⌜ answer r (now (used .exit)) ≡ scanRun (blockStep (frameOf f (now (words .entry))) (now (words .entry)) (root .0)) (now (used .entry)) (blocks (frameOf f (now (words .entry)))) 0 ⌝ }
+// The count entries whose words start at at. The count is handed in, so that the loop is compiled against a plain number.
+fn entries(f: Frame, words: &[u64], at: usize, count: usize, used: &mut [bool; 256]) -> bool
+    requires { ⌜ (boundsOk (frameOf f (now words)) ≡ true) × (at + count ≤ length (now words)) ⌝ }
+    ensures { λ r. ⌜ answer r (now (used .exit)) ≡ scanRun (wordStep (frameOf f (now (words .entry))) (now (words .entry)) at) (now (used .entry)) count 0 ⌝ }
 {
-    let count = lent::block_count(f, words.len());
-    let at = lent::page_start(f, words.len(), root);
     for b in 0..count {
         if !entry(f, words, word::decode(words[at + b]), used) {
             return false;
@@ -97,13 +95,15 @@ fn entries(f: Frame, words: &[u64], root: PageNumber, used: &mut [bool; 256]) ->
     true
 }
 
-// A root: the page itself, then its entries.
+// A root: the page itself, then "the first 2^(PAW-25) entries"; "the rest of the page is never read".
 fn root(f: Frame, words: &[u64], page: PageNumber, used: &mut [bool; 256]) -> bool
     requires { ⌜ boundsOk (frameOf f (now words)) ≡ true ⌝ }
     ensures { λ r. ⌜ answer r (now (used .exit)) ≡ rootStep (frameOf f (now (words .entry))) (now (words .entry)) (now (used .entry)) (page .0) ⌝ }
 {
     if claim(f, words.len(), page, used) {
-        return entries(f, words, page, used);
+        let count = lent::block_count(f, words.len());
+        let at = lent::page_start(f, words.len(), page);
+        return entries(f, words, at, count, used);
     }
     false
 }

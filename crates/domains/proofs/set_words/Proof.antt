@@ -1,4 +1,4 @@
--- `domains::set_words` meets its contract.
+-- `domains::set_words` meets its contract: the count is at most the number of words passed.
 use Prim.Native.Nat.{_≤_, _-_}
 use native.Mathlib.Omega.{arith}
 use borrow.Author.Needs.{needs}

@@ -1,4 +1,4 @@
--- `lookup::entry_at` meets its contract.
+-- `lookup::entry_at` meets its contract: an entry of a lent page lies inside the lent words.
 use mathlib.Core.Path.{sym, _∙_}
 use borrow.Author.Needs.{needs}
 use Rattle.model.specs.Walk.{entryAt, entryPage}

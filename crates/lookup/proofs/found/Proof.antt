@@ -1,4 +1,4 @@
--- `lookup::found` meets its contract.
+-- `lookup::found` meets its contract: each arm is given what the entry is, and the bound that `decode` keeps makes it a permission.
 use borrow.Author.Needs.{needs}
 use Rattle.model.specs.Walk.{found, pieceOf}
 use Rattle.lookup.proofs.found.Statement.{statement}

@@ -1,4 +1,4 @@
--- `lookup::in_table` meets its contract.
+-- `lookup::in_table` meets its contract: the entry is that of pn[1], and the field that of pn[0].
 use mathlib.Core.Path.{sym, ap, _∙_}
 use Prim.Native.Nat.{ℕ, _%_}
 use borrow.Author.Needs.{needs}

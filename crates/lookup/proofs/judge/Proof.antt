@@ -1,4 +1,4 @@
--- `lookup::judge` meets its contract.
+-- `lookup::judge` meets its contract: the permission's row decides; either way the cause is that of the original access.
 use borrow.Author.Needs.{needs}
 use Rattle.model.specs.Access.{judge}
 use Rattle.lookup.proofs.judge.Statement.{statement}

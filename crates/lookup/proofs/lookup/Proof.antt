@@ -1,4 +1,4 @@
--- `lookup::lookup` meets its contract.
+-- `lookup::lookup` meets its contract: each return follows the tests of the definition in their order.
 use mathlib.Core.Path.{_≡_, sym, _∙_}
 use mathlib.Core.Bool.{true}
 use denote.Ref.{now}

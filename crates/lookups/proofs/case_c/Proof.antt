@@ -1,4 +1,4 @@
--- `lookups::case_c` meets its contract.
+-- `lookups::case_c` meets its contract: the loop stays below entry 64.
 use Prim.Native.Nat.{_≤_, _-_}
 use native.Mathlib.Omega.{arith}
 use Rattle.lookups.proofs.case_c.Statement.{statement}

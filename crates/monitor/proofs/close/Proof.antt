@@ -1,4 +1,4 @@
--- `monitor::close` meets its contract.
+-- `monitor::close` meets its contract: each return is one of the laws of `Refusals`, by the tests so far.
 use mathlib.Core.Path.{_≡_, sym, ap, _∙_}
 use mathlib.Core.Bool.{true}
 use Prim.Native.Nat.{_<_}

@@ -1,4 +1,4 @@
--- `monitor::open` meets its contract.
+-- `monitor::open` meets its contract: each return is one of the laws of `Refusals`, by the tests so far; the marks give the free pages.
 use mathlib.Core.Path.{_≡_, sym, ap, _∙_}
 use mathlib.Core.Bool.{Bool, true, false}
 use mathlib.Core.List.{List}

@@ -1,4 +1,4 @@
--- `monitor::open_at` meets its contract.
+-- `monitor::open_at` meets its contract: the page is zeroed word by word, and the register is put together from its fields.
 use mathlib.Core.List.{List}
 use mathlib.Core.Path.{sym, ap, ap₂, _∙_}
 use Prim.Native.Nat.{ℕ}

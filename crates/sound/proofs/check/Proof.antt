@@ -1,4 +1,4 @@
--- `sound::check` meets its contract.
+-- `sound::check` meets its contract: what the two passes answer is what the definition of a sound table says (`Pass`).
 use mathlib.Core.Path.{_≡_, sym, _∙_}
 use mathlib.Core.Bool.{true}
 use denote.Ref.{now}

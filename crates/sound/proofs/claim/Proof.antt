@@ -1,4 +1,4 @@
--- `sound::claim` meets its contract.
+-- `sound::claim` meets its contract: a lent page has a place among the 256 marks.
 use mathlib.Core.Path.{_≡_, sym, _∙_}
 use mathlib.Core.Bool.{true}
 use Prim.Native.Nat.{_+_, _≤_, _<_}

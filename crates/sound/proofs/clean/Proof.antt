@@ -1,4 +1,4 @@
--- `sound::clean` meets its contract.
+-- `sound::clean` meets its contract: the invariant: what was gathered, tested by the mask, and the rest of the page decide the whole page.
 use mathlib.Core.Path.{_≡_, refl, sym, ap, _∙_}
 use mathlib.Core.Bool.{Bool, _&&_}
 use mathlib.Core.List.{List}

@@ -1,4 +1,4 @@
--- `sound::entry` meets its contract.
+-- `sound::entry` meets its contract: each arm is given what the entry is.
 use borrow.Author.Needs.{needs}
 use Rattle.sound.proofs.entry.Statement.{statement}
 use Rattle.sound.proofs.entry.Tie as tie

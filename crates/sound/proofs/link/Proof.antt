@@ -1,4 +1,4 @@
--- `sound::link` meets its contract.
+-- `sound::link` meets its contract: the page was claimed, so it is lent, and its words are those that `clean` reads.
 use mathlib.Core.Path.{ap, _∙_}
 use mathlib.Core.Bool.{Bool}
 use borrow.Author.Needs.{needs}

@@ -1,4 +1,4 @@
--- `sound::register` meets its contract.
+-- `sound::register` meets its contract: the tests come in the order of the definition.
 use borrow.Author.Tests.{eq-eqb, ne-eqb}
 use borrow.Author.Needs.{needs}
 use Rattle.model.specs.Sound.{isOpen}

@@ -1,4 +1,4 @@
--- `sound::slot` meets its contract.
+-- `sound::slot` meets its contract: an empty slot claims nothing.
 use borrow.Author.Tests.{eq-eqb, ne-eqb}
 use borrow.Author.Needs.{needs}
 use Rattle.model.specs.Sound.{isOpen}

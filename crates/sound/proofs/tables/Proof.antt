@@ -1,4 +1,4 @@
--- `sound::tables` meets its contract.
+-- `sound::tables` meets its contract: the invariant: the slots that are left, from the marks so far, decide the whole.
 use mathlib.Core.Path.{_≡_, refl, sym, _∙_}
 use Prim.Native.Nat.{_-_, _≤_, _<_}
 use native.Mathlib.Omega.{arith}

@@ -1,4 +1,4 @@
--- `monitor::page::zero_page` meets its contract.
+-- `monitor::page::zero_page` meets its contract: the invariant: zeroing the words that are left gives the zeroed page.
 use mathlib.Core.Path.{_≡_, refl, sym, ap, _∙_}
 use mathlib.Core.List.{List}
 use Prim.Native.Nat.{ℕ, _+_, _-_, _≤_, _<_}

@@ -1,4 +1,4 @@
--- `monitor::slots::held` meets its contract.
+-- `monitor::slots::held` meets its contract: the invariant: the slots that are left decide whether one holds the SDID.
 use mathlib.Core.Path.{_≡_, refl, sym, _∙_}
 use Prim.Native.Nat.{_-_, _≤_, _<_}
 use native.Mathlib.Omega.{arith}

@@ -1,4 +1,4 @@
--- `sound::pick::free_pages` meets its contract.
+-- `sound::pick::free_pages` meets its contract: the invariant: listed are the clear pages among those passed, from the highest down.
 use mathlib.Core.List.{headD}
 use mathlib.Core.Path.{_≡_, sym, ap, _∙_}
 use Prim.Native.Nat.{_-_, _/_, _≤_, _<_, _^_}

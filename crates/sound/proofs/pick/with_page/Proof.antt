@@ -1,4 +1,4 @@
--- `sound::pick::with_page` meets its contract.
+-- `sound::pick::with_page` meets its contract: a page below the others is the first, and the first becomes the second.
 use mathlib.Core.Path.{_≡_, ap, _∙_}
 use mathlib.Core.List.{List, _∷_, headD}
 use Prim.Native.Nat.{ℕ, _+_}

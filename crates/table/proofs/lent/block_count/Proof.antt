@@ -1,4 +1,4 @@
--- `table::lent::block_count` meets its contract.
+-- `table::lent::block_count` meets its contract: a shift by PAW - 25, which is 9 at the most.
 use native.Mathlib.Omega.{arith}
 use Rattle.model.specs.Frame.{blocks}
 use Rattle.table.proofs.Frames.{bounds, few-blocks}

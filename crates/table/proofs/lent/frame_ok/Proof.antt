@@ -1,4 +1,4 @@
--- `table::lent::frame_ok` meets its contract.
+-- `table::lent::frame_ok` meets its contract: the tests come in the order of the definition; the room is tested by a difference, so that no sum wraps.
 use mathlib.Core.Path.{_≡_, refl, sym, _∙_}
 use mathlib.Core.Bool.{Bool, true, false, _&&_}
 use Prim.Native.Nat.{ℕ, _+_, _-_, _*_, _/_, _%_, _≤_, _^_}

@@ -1,4 +1,4 @@
--- `table::lent::page_count` meets its contract.
+-- `table::lent::page_count` meets its contract: a shift by PAW - 12, which is 22 at the most.
 use native.Mathlib.Omega.{arith}
 use Rattle.model.specs.Frame.{space}
 use Rattle.table.proofs.Frames.{bounds, few-pages}

@@ -1,4 +1,4 @@
--- `table::lent::pow2` meets its contract.
+-- `table::lent::pow2` meets its contract: the shift loses no bit.
 use mathlib.Core.Path.{_∙_}
 use Prim.Native.Nat.{_^_}
 use native.Mathlib.Nat.{one-mul}

@@ -1,4 +1,4 @@
--- `table::rights::need_of` meets its contract.
+-- `table::rights::need_of` meets its contract: case by case.
 use borrow.Author.Needs.{needs}
 use Rattle.model.specs.Access.{needOf}
 use Rattle.table.proofs.rights.need_of.Statement.{statement}

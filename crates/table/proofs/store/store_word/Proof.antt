@@ -1,4 +1,4 @@
--- `table::store::store_word` meets its contract.
+-- `table::store::store_word` meets its contract: one assignment is `set`, and `set` is the next store of every list whose store it is.
 use mathlib.Core.Path.{refl}
 use borrow.Author.Needs.{needs}
 use Rattle.table.proofs.Stores.{steps-of-set}

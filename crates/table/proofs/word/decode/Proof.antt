@@ -1,4 +1,4 @@
--- `table::word::decode` meets its contract.
+-- `table::word::decode` meets its contract: the tests come in the order of the definition.
 use borrow.Author.Needs.{needs}
 use Rattle.model.specs.Entry.{decode, zeroOf, typeOf, infoOf}
 use Rattle.table.proofs.Tests.{tests}

@@ -1,4 +1,4 @@
--- `table::word::field_found` meets its contract.
+-- `table::word::field_found` meets its contract: a field below 4 has no reserved bit set.
 use borrow.Author.Tests.{lt-ltb, le-ltb}
 use borrow.Author.Needs.{needs}
 use Rattle.model.specs.Entry.{fieldOf}

@@ -1,4 +1,4 @@
--- `table::word::piece` meets its contract.
+-- `table::word::piece` meets its contract: a shift and a remainder read one digit.
 use native.Mathlib.Omega.{arith}
 use borrow.Author.Needs.{needs}
 use Rattle.table.proofs.Digits.{digit-of-shift}
