@@ -1,0 +1,2 @@
+--   Small    the cause of a fault is a small number
+pub mod Small

@@ -1,0 +1,139 @@
+// Codes and words: what C asks and is answered.
+use crate::Grant;
+use crate::What;
+use crate::Who;
+use monitor::Outcome;
+use monitor::Reply;
+use table::Access;
+use table::Answer;
+use table::Fence;
+use table::Kind;
+use table::Permission;
+use table::Privilege;
+use table::number;
+ghost use mathlib.Core.Path.{_≡_};
+ghost use Prim.Native.Nat.{_<_, _^_};
+ghost use lib.ListN.{getD};
+ghost use Rattle.model.specs.Numbers.{if_then_else_};
+ghost use Rattle.table.specs.Views.{answerOf, fenceOf};
+ghost use Rattle.monitor.specs.Outcomes.{replyOf};
+ghost use Rattle.api.specs.Codes.{privilegeAt, kindAt, permissionAt, whoOf, whatOf, grantOf, answerWord, fenceWord, replyWord};
+
+pub fn who(code: u64) -> Who
+    ensures { λ r. ⌜ whoOf r ≡ privilegeAt code ⌝ }
+{
+    if code == 0 {
+        return Who::Known(Privilege::User);
+    }
+    if code == 1 {
+        return Who::Known(Privilege::Supervisor);
+    }
+    if code == 3 {
+        return Who::Known(Privilege::Machine);
+    }
+    Who::Unknown
+}
+
+pub fn what(code: u64) -> What
+    ensures { λ r. ⌜ whatOf r ≡ kindAt code ⌝ }
+{
+    if code == 0 {
+        return What::Known(Kind::Itself(Access::Fetch));
+    }
+    if code == 1 {
+        return What::Known(Kind::Itself(Access::Load));
+    }
+    if code == 2 {
+        return What::Known(Kind::Itself(Access::Store));
+    }
+    if code == 3 {
+        return What::Known(Kind::TableRead(Access::Fetch));
+    }
+    if code == 4 {
+        return What::Known(Kind::TableRead(Access::Load));
+    }
+    if code == 5 {
+        return What::Known(Kind::TableRead(Access::Store));
+    }
+    if code == 6 {
+        return What::Known(Kind::Update(Access::Fetch));
+    }
+    if code == 7 {
+        return What::Known(Kind::Update(Access::Load));
+    }
+    if code == 8 {
+        return What::Known(Kind::Update(Access::Store));
+    }
+    What::Unknown
+}
+
+pub fn grant(code: u64) -> Grant
+    ensures { λ r. ⌜ grantOf r ≡ permissionAt code ⌝ }
+{
+    if code == 0 {
+        return Grant::Known(Permission::None);
+    }
+    if code == 1 {
+        return Grant::Known(Permission::Rx);
+    }
+    if code == 2 {
+        return Grant::Known(Permission::Rw);
+    }
+    if code == 3 {
+        return Grant::Known(Permission::Rwx);
+    }
+    Grant::Unknown
+}
+
+pub fn answer_word(a: Answer) -> u64
+    ensures { λ r. ⌜ r ≡ answerWord (answerOf a) ⌝ }
+{
+    match a {
+        Answer::Allowed => 0,
+        Answer::Fault(c) => 256 + number::of_cause(c),
+        Answer::Refused(why) => number::of_refusal(why),
+    }
+}
+
+fn fence_word(f: Fence) -> u64
+    ensures { λ r. ⌜ (r ≡ fenceWord (fenceOf f)) × (r < 2 ^ 18) ⌝ }
+{
+    match f {
+        Fence::Nothing => 0,
+        Fence::Domain(sdid) => 1024 + sdid.0 % 64 * 4096,
+        Fence::One(_, sdid) => 2048 + sdid.0 % 64 * 4096,
+    }
+}
+
+fn all_word(all: bool) -> u64
+    ensures { λ r. ⌜ (r ≡ (if all then 512 else 0)) × (r < 1024) ⌝ }
+{
+    if all {
+        return 512;
+    }
+    0
+}
+
+pub fn reply_word(reply: Reply, fence: Fence, register: u64) -> u64
+    ensures { λ r. ⌜ r ≡ replyWord (replyOf reply) (fenceOf fence) register ⌝ }
+{
+    match reply {
+        Reply::Refused(why) => number::of_refusal(why),
+        Reply::Opened => register,
+        Reply::Closed => 256 + fence_word(fence),
+        Reply::Edited(count, all) => {
+            256 + all_word(all) + fence_word(fence) + count % 0x100_0000_0000 * 0x4_0000
+        }
+    }
+}
+
+// Slot s, and zero where there is none.
+pub fn slot_at(slots: [u64; 8], s: u64) -> u64
+    ensures { λ r. ⌜ r ≡ getD slots s 0 ⌝ }
+{
+    if s < 8 {
+        let at = s as usize;
+        return slots[at];
+    }
+    0
+}

@@ -1,0 +1,161 @@
+// The monitor for C: numbers and slices in, one word out. Nothing here stores through a reference: an edit and an open store into the
+// lent words by `table::store::store_word` alone, and whoever holds the slots puts the register that open answers into its slot.
+mod code;
+
+use crate::code::answer_word;
+use crate::code::grant;
+use crate::code::reply_word;
+use crate::code::slot_at;
+use crate::code::what;
+use crate::code::who;
+use monitor::Outcome;
+use table::Address;
+use table::Frame;
+use table::Kind;
+use table::PageNumber;
+use table::Permission;
+use table::Privilege;
+use table::Sdid;
+use table::lent;
+ghost use mathlib.Core.Path.{_≡_};
+ghost use mathlib.Core.List.{List};
+ghost use Prim.Native.Nat.{ℕ, _/_};
+ghost use lib.ListN.{length};
+ghost use Rattle.model.specs.Calls.{openSlot, closeSlot};
+ghost use Rattle.monitor.specs.Outcomes.{outcomeOf};
+ghost use Rattle.api.specs.Codes.{privilegeAt, kindAt, permissionAt, outcomeWord, frameIn, lookupWord, soundWord, editWord, editMemory};
+
+// A privilege, a kind of access and a permission by their codes, if they name one.
+pub enum Who {
+    Known(Privilege),
+    Unknown,
+}
+
+pub enum What {
+    Known(Kind),
+    Unknown,
+}
+
+pub enum Grant {
+    Known(Permission),
+    Unknown,
+}
+
+// What a call answers, in one word.
+fn outcome_word(o: Outcome, slot: u64) -> u64
+    ensures { λ r. ⌜ ((m : List ℕ) → r ≡ outcomeWord (outcomeOf o m) slot) ⌝ }
+{
+    let reply = o.reply;
+    let fence = o.fence;
+    let slots = o.slots;
+    reply_word(reply, fence, slot_at(slots, slot))
+}
+
+#[no_mangle]
+pub extern "C" fn mpt_lookup(
+    paw: u64,
+    first: u64,
+    words: &[u64],
+    mmpt: u64,
+    privilege: u64,
+    kind: u64,
+    address: u64,
+) -> u64
+    ensures { λ r. ⌜ r ≡ lookupWord (frameIn paw first (length (now (words .entry)) / 512)) (now (words .entry)) mmpt (privilegeAt privilege) (kindAt kind) address ⌝ }
+{
+    let f = Frame {
+        paw: paw,
+        first: PageNumber(first),
+    };
+    match who(privilege) {
+        Who::Known(p) => match what(kind) {
+            What::Known(k) => {
+                answer_word(monitor::lookup(f, words, mmpt, p, k, Address(address)))
+            }
+            What::Unknown => 255,
+        },
+        Who::Unknown => 255,
+    }
+}
+
+#[no_mangle]
+pub extern "C" fn mpt_sound(paw: u64, first: u64, words: &[u64], slots: &[u64; 8]) -> u64
+    ensures { λ r. ⌜ r ≡ soundWord (frameIn paw first (length (now (words .entry)) / 512)) (now (words .entry)) (now (slots .entry)) ⌝ }
+{
+    let f = Frame {
+        paw: paw,
+        first: PageNumber(first),
+    };
+    if !lent::frame_ok(f, words) {
+        return 1;
+    }
+    let kept = *slots;
+    let checked = sound::check(f, words, kept);
+    if !checked.sound {
+        return 3;
+    }
+    0
+}
+
+#[no_mangle]
+pub extern "C" fn mpt_open(
+    paw: u64,
+    first: u64,
+    words: &mut [u64],
+    slots: &[u64; 8],
+    slot: u64,
+    sdid: u64,
+) -> u64
+    ensures { λ r. ⌜ (r ≡ outcomeWord (openSlot (frameIn paw first (length (now (words .entry)) / 512)) (now (words .entry)) (now (slots .entry)) slot sdid) slot)
+        × (now (words .exit) ≡ openSlot (frameIn paw first (length (now (words .entry)) / 512)) (now (words .entry)) (now (slots .entry)) slot sdid .memory) ⌝ }
+{
+    let f = Frame {
+        paw: paw,
+        first: PageNumber(first),
+    };
+    let kept = *slots;
+    let o = monitor::open(f, words, kept, slot, Sdid(sdid));
+    outcome_word(o, slot)
+}
+
+#[no_mangle]
+pub extern "C" fn mpt_close(paw: u64, first: u64, words: &[u64], slots: &[u64; 8], slot: u64) -> u64
+    ensures { λ r. ⌜ r ≡ outcomeWord (closeSlot (frameIn paw first (length (now (words .entry)) / 512)) (now (words .entry)) (now (slots .entry)) slot) slot ⌝ }
+{
+    let f = Frame {
+        paw: paw,
+        first: PageNumber(first),
+    };
+    let kept = *slots;
+    let o = monitor::close(f, words, kept, slot);
+    outcome_word(o, slot)
+}
+
+#[no_mangle]
+pub extern "C" fn mpt_edit(
+    paw: u64,
+    first: u64,
+    words: &mut [u64],
+    slots: &[u64; 8],
+    slot: u64,
+    start: u64,
+    size: u64,
+    permission: u64,
+    limit: u64,
+) -> u64
+    ensures { λ r. ⌜ (r ≡ editWord (frameIn paw first (length (now (words .entry)) / 512)) (now (words .entry)) (now (slots .entry)) slot start size (permissionAt permission) limit)
+        × (now (words .exit) ≡ editMemory (frameIn paw first (length (now (words .entry)) / 512)) (now (words .entry)) (now (slots .entry)) slot start size (permissionAt permission) limit) ⌝ }
+{
+    let f = Frame {
+        paw: paw,
+        first: PageNumber(first),
+    };
+    let kept = *slots;
+    match grant(permission) {
+        Grant::Known(p) => {
+            let o = monitor::edit(f, words, kept, slot, Address(start), size, p, limit);
+            outcome_word(o, slot)
+        }
+        Grant::Unknown => 255,
+    }
+}
