@@ -9,6 +9,7 @@ use table::PageNumber;
 use table::Privilege;
 use table::Refusal;
 use table::lent;
+use table::page;
 use table::register;
 use table::rights;
 use table::word;
@@ -35,40 +36,43 @@ pub fn entry_at(f: Frame, words: &[u64], root: PageNumber, b: u64) -> Entry
 }
 
 // The field of an L1 page that speaks for a page: the entry by pn[1], its field by pn[0].
-fn in_table(f: Frame, words: &[u64], table: PageNumber, page: PageNumber) -> Found
-    ensures { λ r. ⌜ foundOf r ≡ walk.found (frameOf f (now (words .entry))) (now (words .entry)) (entryOf (Entry.Table table)) (page .0) ⌝ }
+fn in_table(f: Frame, words: &[u64], table: PageNumber, number: PageNumber) -> Found
+    ensures { λ r. ⌜ foundOf r ≡ walk.found (frameOf f (now (words .entry))) (now (words .entry)) (entryOf (Entry.Table table)) (number .0) ⌝ }
 {
-    let number = page.0;
     if lent::is_lent(f, words.len(), table) {
-        let at = lent::page_start(f, words.len(), table) + (number / 16 % 512) as usize;
-        return word::field_found(words[at], number % 16);
+        let at = lent::page_start(f, words.len(), table) + page::pn1(number) as usize;
+        return word::field_found(words[at], page::pn0(number));
     }
     Found::Fault
 }
 
 // The second stage: what an L2 entry finds for a page of its block.
-pub fn found(f: Frame, words: &[u64], e: Entry, page: PageNumber) -> Found
+pub fn found(f: Frame, words: &[u64], e: Entry, number: PageNumber) -> Found
     requires { ⌜ Small (entryOf e) ⌝ }
-    ensures { λ r. ⌜ foundOf r ≡ walk.found (frameOf f (now (words .entry))) (now (words .entry)) (entryOf e) (page .0) ⌝ }
+    ensures { λ r. ⌜ foundOf r ≡ walk.found (frameOf f (now (words .entry))) (now (words .entry)) (entryOf e) (number .0) ⌝ }
 {
     match e {
         Entry::Flat(p) => Found::Grant(rights::permission_of(p)),
         Entry::Pieces(info) => {
-            Found::Grant(rights::permission_of(word::piece(info, page.0 % 8192 / 512)))
+            Found::Grant(rights::permission_of(word::piece(info, page::piece_of(number))))
         }
-        Entry::Table(table) => in_table(f, words, table, page),
+        Entry::Table(table) => in_table(f, words, table, number),
         Entry::Invalid => Found::Fault,
     }
 }
 
 // "An address of 2^PAW or more faults."
-pub fn walk(f: Frame, words: &[u64], root: PageNumber, page: PageNumber) -> Found
+pub fn walk(f: Frame, words: &[u64], root: PageNumber, number: PageNumber) -> Found
     requires { ⌜ boundsOk (frameOf f (now words)) ≡ true ⌝ }
-    ensures { λ r. ⌜ foundOf r ≡ walk.walk (frameOf f (now (words .entry))) (now (words .entry)) (root .0) (page .0) ⌝ }
+    ensures { λ r. ⌜ foundOf r ≡ walk.walk (frameOf f (now (words .entry))) (now (words .entry)) (root .0) (number .0) ⌝ }
 {
-    let number = page.0;
-    if number < lent::page_count(f, words.len()) {
-        return found(f, words, entry_at(f, words, root, number / 8192), page);
+    if number.0 < lent::page_count(f, words.len()) {
+        return found(
+            f,
+            words,
+            entry_at(f, words, root, page::pn2(number)),
+            number,
+        );
     }
     Found::Fault
 }
@@ -111,7 +115,7 @@ pub fn lookup(
         return Answer::Allowed;
     }
     judge(
-        walk(f, words, register::ppn(register), lent::page_of(a)),
+        walk(f, words, register::ppn(register), page::page_of(a)),
         kind,
     )
 }

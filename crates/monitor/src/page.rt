@@ -1,4 +1,5 @@
 // A page of the lent memory, zeroed.
+use table::page::PAGE_WORDS;
 use table::store::store_word;
 ghost use mathlib.Core.Path.{_≡_};
 ghost use Prim.Native.Nat.{_+_, _≤_};
@@ -10,7 +11,7 @@ pub fn zero_page(words: &mut [u64], at: usize)
     requires { ⌜ at + 512 ≤ length (now words) ⌝ }
     ensures { λ r. ⌜ now (words .exit) ≡ zeroed (now (words .entry)) at ⌝ }
 {
-    for i in 0..512usize {
+    for i in 0..PAGE_WORDS {
         store_word(words, at + i, 0);
     }
 }

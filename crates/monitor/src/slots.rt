@@ -5,11 +5,16 @@ ghost use mathlib.Core.Path.{_≡_};
 ghost use Rattle.model.specs.Numbers.{member};
 ghost use Rattle.monitor.specs.Slots as spec;
 
+// "Eight slots", and an SDID of six bits.
+const SLOTS: u64 = 8;
+
+const MAX_SDID: u64 = 63;
+
 // "Slot above 7; empty for close or edit."
 pub fn not_open(slots: [u64; 8], slot: u64) -> bool
     ensures { λ r. ⌜ r ≡ spec.notOpen slots slot ⌝ }
 {
-    if 8 <= slot {
+    if SLOTS <= slot {
         return true;
     }
     let at = slot as usize;
@@ -20,7 +25,7 @@ pub fn not_open(slots: [u64; 8], slot: u64) -> bool
 pub fn not_empty(slots: [u64; 8], slot: u64) -> bool
     ensures { λ r. ⌜ r ≡ spec.notEmpty slots slot ⌝ }
 {
-    if 8 <= slot {
+    if SLOTS <= slot {
         return true;
     }
     let at = slot as usize;
@@ -53,7 +58,7 @@ pub fn bad_sdid(slots: [u64; 8], sdid: Sdid) -> bool
     ensures { λ r. ⌜ r ≡ spec.badSdid slots (sdid .0) ⌝ }
 {
     let number = sdid.0;
-    if 63 < number {
+    if MAX_SDID < number {
         return true;
     }
     held(slots, sdid)

@@ -5,6 +5,7 @@ use table::Entry;
 use table::Frame;
 use table::PageNumber;
 use table::lent;
+use table::page::PAGE_WORDS;
 use table::register;
 use table::word;
 ghost use mathlib.Core.Path.{_≡_};
@@ -31,16 +32,19 @@ pub struct Free {
     pub second: PageNumber,
 }
 
+// "The high two are reserved", of each of the 16 fields of an L1 entry.
+const RESERVED: u64 = 0xCCCC_CCCC_CCCC_CCCC;
+
 // "All reserved bits in it are zero": the words are gathered by `|` and tested once.
 fn clean(words: &[u64], at: usize) -> bool
     requires { ⌜ at + 512 ≤ length (now words) ⌝ }
     ensures { λ r. ⌜ r ≡ every (λ i. entry.clean rv64 (getD (now (words .entry)) (at + i) 0)) 512 0 ⌝ }
 {
     let mut all: u64 = 0;
-    for i in 0..512usize {
+    for i in 0..PAGE_WORDS {
         all |= words[at + i];
     }
-    all & 0xCCCC_CCCC_CCCC_CCCC == 0
+    all & RESERVED == 0
 }
 
 // Marks a page, if it is lent and not marked.

@@ -2,6 +2,7 @@
 use crate::Free;
 use table::Frame;
 use table::PageNumber;
+use table::page::PAGE_WORDS;
 ghost use mathlib.Core.Path.{_≡_};
 ghost use mathlib.Core.Bool.{true};
 ghost use mathlib.Core.List.{List};
@@ -32,7 +33,7 @@ pub fn free_pages(f: Frame, n: usize, used: &[bool; 256]) -> Free
     ensures { λ r. ⌜ r ≡ listed (clearPages (frameOver f n) (now (used .entry))) ⌝ }
 {
     let first = f.first.0;
-    let pages = n / 512;
+    let pages = n / PAGE_WORDS;
     let mut free = Free {
         count: 0,
         first: PageNumber(0),

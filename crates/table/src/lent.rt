@@ -1,7 +1,7 @@
 // The frame: its bounds, which pages are lent, and where their words stand.
-use crate::Address;
 use crate::Frame;
 use crate::PageNumber;
+use crate::page::PAGE_WORDS;
 ghost use mathlib.Core.Path.{_≡_};
 ghost use mathlib.Core.Bool.{true};
 ghost use Prim.Native.Nat.{_+_, _<_, _≤_, _^_};
@@ -16,12 +16,14 @@ pub fn pow2(k: u64) -> u64
     1u64 << k
 }
 
-// The page number of an address: "offset bits 11:0".
-pub fn page_of(a: Address) -> PageNumber
-    ensures { λ r. ⌜ r .0 ≡ frame.pageOf (a .0) ⌝ }
-{
-    PageNumber(a.0 / 4096)
-}
+// "PAW (30 to 34), lent table memory of 2 to 256 whole pages."
+const MIN_PAW: u64 = 30;
+
+const MAX_PAW: u64 = 34;
+
+const MIN_PAGES: u64 = 2;
+
+const MAX_PAGES: u64 = 256;
 
 pub fn frame_ok(f: Frame, words: &[u64]) -> bool
     ensures { λ r. ⌜ r ≡ frame.frameOk (frameOf f (now (words .entry))) (now (words .entry)) ⌝ }
@@ -29,17 +31,17 @@ pub fn frame_ok(f: Frame, words: &[u64]) -> bool
     let paw = f.paw;
     let first = f.first.0;
     let n = words.len();
-    let pages = (n / 512) as u64;
-    if paw < 30 {
+    let pages = (n / PAGE_WORDS) as u64;
+    if paw < MIN_PAW {
         return false;
     }
-    if 34 < paw {
+    if MAX_PAW < paw {
         return false;
     }
-    if pages < 2 {
+    if pages < MIN_PAGES {
         return false;
     }
-    if 256 < pages {
+    if MAX_PAGES < pages {
         return false;
     }
     if first < 1 {
@@ -48,7 +50,7 @@ pub fn frame_ok(f: Frame, words: &[u64]) -> bool
     if pow2(paw - 12) - pages < first {
         return false;
     }
-    n % 512 == 0
+    n % PAGE_WORDS == 0
 }
 
 // "The first 2^(PAW-25) entries": the blocks of the address space.
@@ -70,7 +72,7 @@ pub fn page_count(f: Frame, n: usize) -> u64
 pub fn is_lent(f: Frame, n: usize, page: PageNumber) -> bool
     ensures { λ r. ⌜ r ≡ frame.lent (frameOver f n) (page .0) ⌝ }
 {
-    let pages = (n / 512) as u64;
+    let pages = (n / PAGE_WORDS) as u64;
     let first = f.first.0;
     let at = page.0;
     if at < first {
@@ -84,5 +86,5 @@ pub fn page_start(f: Frame, n: usize, page: PageNumber) -> usize
     requires { ⌜ frame.lent (frameOver f n) (page .0) ≡ true ⌝ }
     ensures { λ r. ⌜ (r ≡ frame.indexOf (frameOver f n) (page .0) 0) × (r + 512 ≤ n) ⌝ }
 {
-    ((page.0 - f.first.0) * 512) as usize
+    (page.0 - f.first.0) as usize * PAGE_WORDS
 }

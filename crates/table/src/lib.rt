@@ -1,6 +1,7 @@
 // The types of the monitor. The leaves, each on one word or one number, are in the modules.
 pub mod lent;
 pub mod number;
+pub mod page;
 pub mod register;
 pub mod rights;
 pub mod store;

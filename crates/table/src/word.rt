@@ -11,13 +11,20 @@ ghost use Rattle.model.specs.Entry as entry;
 ghost use Rattle.table.specs.Views.{entryOf, foundOf};
 ghost use Rattle.table.specs.Bounds.{Small};
 
+// Where TYPE and ZERO begin: bits 44 and 47. Below lies INFO, of which TYPE 6 uses bits 31:0.
+const TYPE: u64 = 0x1000_0000_0000;
+
+const ZERO: u64 = 0x8000_0000_0000;
+
+const PIECES: u64 = 0x1_0000_0000;
+
 // What an L2 entry says. The page number of an L1 page is all 44 bits of INFO.
 pub fn decode(word: u64) -> Entry
     ensures { λ r. ⌜ (entryOf r ≡ entry.decode rv64 word) × Small (entryOf r) ⌝ }
 {
-    let info = word % 0x1000_0000_0000;
-    let kind = word / 0x1000_0000_0000 % 8;
-    if word / 0x8000_0000_0000 != 0 {
+    let info = word % TYPE;
+    let kind = word / TYPE % 8;
+    if word / ZERO != 0 {
         return Entry::Invalid;
     }
     if kind < 4 {
@@ -30,7 +37,7 @@ pub fn decode(word: u64) -> Entry
         return Entry::Table(PageNumber(info));
     }
     if kind == 6 {
-        if info < 0x1_0000_0000 {
+        if info < PIECES {
             return Entry::Pieces(info);
         }
     }

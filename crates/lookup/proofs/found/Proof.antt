@@ -1,6 +1,6 @@
 -- `lookup::found` meets its contract: each arm is given what the entry is, and the bound that `decode` keeps makes it a permission.
 use borrow.Author.Needs.{needs}
-use Rattle.model.specs.Walk.{found, pieceOf}
+use Rattle.model.specs.Walk.{found}
 use Rattle.lookup.proofs.found.Statement.{statement}
 use Rattle.lookup.proofs.found.Tie as tie
 
@@ -12,6 +12,9 @@ permission-of-requires c κs = rw (c .before .e .given .1) at (c .before .before
 
 enum-known-e-2 : tie.Need-enum-known-e-2
 enum-known-e-2 c = search needs
+
+piece-of-requires : tie.Need-piece-of-requires
+piece-of-requires c κs = search needs
 
 piece-requires : tie.Need-piece-requires
 piece-requires c κs = search needs
@@ -33,8 +36,8 @@ unfolding found
 returns c = rw (c .before .before .e .given .1, c .permission-of .ensures)
 
 returns-2 : tie.Need-returns-2
-unfolding found pieceOf
-returns-2 c = rw (c .before .before .before .before .e2 .given .1, c .permission-of2 .ensures, c .before .piece .ensures .0)
+unfolding found
+returns-2 c = rw (c .before .before .before .before .e2 .given .1, c .permission-of2 .ensures, c .before .piece .ensures .0, c .before .before .piece-of .ensures .0)
 
 returns-3 : tie.Need-returns-3
 returns-3 c = rw (c .before .before .e3 .given .1) (c .in-table .ensures)
@@ -50,6 +53,7 @@ found-spec =
     enum-known-e
     permission-of-requires
     enum-known-e-2
+    piece-of-requires
     piece-requires
     permission-of-requires-2
     enum-known-e-3

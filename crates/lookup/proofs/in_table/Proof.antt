@@ -1,10 +1,10 @@
 -- `lookup::in_table` meets its contract: the entry is that of pn[1], and the field that of pn[0].
 use mathlib.Core.Path.{sym, ap, _∙_}
-use Prim.Native.Nat.{ℕ, _%_}
+use Prim.Native.Nat.{ℕ}
 use borrow.Author.Needs.{needs}
 use Rattle.model.specs.Layout.{rv64}
 use Rattle.model.specs.Entry.{fieldOf}
-use Rattle.model.specs.Walk.{found, pn0, pn1}
+use Rattle.model.specs.Walk.{found}
 use Rattle.table.proofs.Frames.{word-at}
 use Rattle.lookup.proofs.in_table.Statement.{statement}
 use Rattle.lookup.proofs.in_table.Tie as tie
@@ -15,6 +15,9 @@ is-lent-requires c κs = search needs
 page-start-requires : tie.Need-page-start-requires
 page-start-requires c κs = sym (c .before .is-lent .ensures) ∙ c .if1 .taken
 
+pn1-requires : tie.Need-pn1-requires
+pn1-requires c κs = search needs
+
 add-at : tie.Need-add-at
 add-at c = search needs
 
@@ -24,16 +27,20 @@ mul-field-found c = search needs
 shared-slice-read-field-found : tie.Need-shared-slice-read-field-found
 shared-slice-read-field-found c = search needs
 
+pn0-requires : tie.Need-pn0-requires
+pn0-requires c κs = search needs
+
 field-found-requires : tie.Need-field-found-requires
 field-found-requires c κs = search needs
 
 returns : tie.Need-returns
-unfolding found pn0 pn1
-returns c = let p = c .before .before in
+unfolding found
+returns c = let z = c .before in
+    let o = z .before .before in
+    let p = o .before in
     let b = p .before in
-    c .field-found .ensures
-    ∙ rw (sym (b .before .is-lent .ensures) ∙ b .if1 .taken)
-    (ap (λ (w : ℕ). fieldOf rv64 w (b .before .before .before .args .page .0 % 16)) (word-at _ _ _ _ _ (p .page-start .ensures .0)))
+    rw (sym (b .before .is-lent .ensures) ∙ b .if1 .taken, ← o .pn1 .ensures .0, ← z .pn0 .ensures .0)
+    (c .field-found .ensures ∙ ap (λ (w : ℕ). fieldOf rv64 w (z .pn0 .result)) (word-at _ _ _ _ _ (p .page-start .ensures .0)))
 
 returns-2 : tie.Need-returns-2
 unfolding found
@@ -45,9 +52,11 @@ in-table-spec =
     (tie.spec
     is-lent-requires
     page-start-requires
+    pn1-requires
     add-at
     mul-field-found
     shared-slice-read-field-found
+    pn0-requires
     field-found-requires
     returns
     returns-2)

@@ -1,8 +1,8 @@
--- `table::lent::page_of` meets its contract.
+-- `table::page::page_of` meets its contract.
 use mathlib.Core.Path.{refl}
 use Rattle.model.specs.Frame.{pageOf}
-use Rattle.table.proofs.lent.page_of.Statement.{statement}
-use Rattle.table.proofs.lent.page_of.Tie as tie
+use Rattle.table.proofs.page.page_of.Statement.{statement}
+use Rattle.table.proofs.page.page_of.Tie as tie
 
 returns : tie.Need-returns
 unfolding pageOf

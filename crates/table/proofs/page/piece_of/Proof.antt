@@ -1,0 +1,13 @@
+-- `table::page::piece_of` meets its contract.
+use mathlib.Core.Path.{refl}
+use native.Mathlib.Omega.{arith}
+use Rattle.model.specs.Walk.{pieceOf}
+use Rattle.table.proofs.page.piece_of.Statement.{statement}
+use Rattle.table.proofs.page.piece_of.Tie as tie
+
+returns : tie.Need-returns
+unfolding pieceOf
+returns c = (refl, omega arith)
+
+pub piece-of-spec : {M : Type 1} → statement M
+piece-of-spec = tie.close (tie.spec returns)

@@ -1,0 +1,12 @@
+-- `table::page::pn2` meets its contract.
+use mathlib.Core.Path.{refl}
+use Rattle.model.specs.Walk.{pn2}
+use Rattle.table.proofs.page.pn2.Statement.{statement}
+use Rattle.table.proofs.page.pn2.Tie as tie
+
+returns : tie.Need-returns
+unfolding pn2
+returns c = refl
+
+pub pn2-spec : {M : Type 1} → statement M
+pn2-spec = tie.close (tie.spec returns)
