@@ -24,26 +24,29 @@ static uint64_t look(uint64_t kind, uint64_t address)
     return mpt_lookup(PAW, FIRST, words, COUNT, slots[0], MPT_SUPERVISOR, kind, address);
 }
 
-static uint64_t edit_page(uint64_t start, uint64_t permission, uint64_t answer[5])
+static uint64_t edit_page(uint64_t start, uint64_t permission)
 {
-    return mpt_edit(PAW, FIRST, words, COUNT, slots, 8, 0, start, 0x1000, permission, LIMIT, answer, 5);
+    return mpt_edit(PAW, FIRST, words, COUNT, slots, 0, start, 0x1000, permission, LIMIT);
 }
 
 static void open_bench(void)
 {
-    expect("open", mpt_open(PAW, FIRST, words, COUNT, slots, 8, 0, 5), MPT_DONE);
-    expect("open: register", slots[0], UINT64_C(0x1140000000080000));
+    uint64_t answer = mpt_open(PAW, FIRST, words, COUNT, slots, 0, 5);
+    expect("open: refused", mpt_refused(answer), 0);
+    expect("open: register", answer, UINT64_C(0x1140000000080000));
+    slots[0] = answer;
+    expect("open again", mpt_open(PAW, FIRST, words, COUNT, slots, 0, 6), MPT_BAD_SLOT);
     expect("A: load on the new domain", look(MPT_LOAD, 0x40000000), MPT_LOAD_FAULT);
 }
 
 static void case_c(void)
 {
-    uint64_t answer[5] = {9, 9, 9, 9, 9};
-    expect("C", edit_page(0x40000000, MPT_RW, answer), MPT_DONE);
-    expect("C: stores", answer[0], 544);
-    expect("C: all", answer[1], 1);
-    expect("C: fence", answer[2], MPT_FENCE_DOMAIN);
-    expect("C: fence SDID", answer[3], 5);
+    uint64_t answer = edit_page(0x40000000, MPT_RW);
+    expect("C: refused", mpt_refused(answer), 0);
+    expect("C: stores", mpt_stores(answer), 544);
+    expect("C: all", mpt_all(answer), 1);
+    expect("C: fence", mpt_fence(answer), MPT_FENCE_DOMAIN);
+    expect("C: fence SDID", mpt_fence_sdid(answer), 5);
     expect("C: L2 entry 32", words[32], UINT64_C(0x0000400000080001));
     for (int entry = 33; entry < 64; entry++)
         expect("C: L2 entries 33 to 63", words[entry], UINT64_C(0x0000600000000000));
@@ -51,35 +54,35 @@ static void case_c(void)
 
 static void case_e(void)
 {
-    expect("E: store", look(MPT_STORE, 0x40000FFF), MPT_DONE);
+    expect("E: store", look(MPT_STORE, 0x40000FFF), MPT_FINE);
     expect("E: fetch", look(MPT_FETCH, 0x40000FFF), MPT_FETCH_FAULT);
     expect("E: page-table read for a store", look(MPT_WALK_STORE, 0x40001000), MPT_STORE_FAULT);
 }
 
 static void case_f(void)
 {
-    uint64_t answer[5] = {9, 9, 9, 9, 9};
     expect("F: L1 entry 0 before", words[512], 0x2);
-    expect("F", edit_page(0x40003000, MPT_RX, answer), MPT_DONE);
-    expect("F: stores", answer[0], 1);
-    expect("F: all", answer[1], 1);
-    expect("F: fence", answer[2], MPT_FENCE_ADDRESS);
-    expect("F: fence SDID", answer[3], 5);
-    expect("F: fence address", answer[4], 0x40003000);
+    uint64_t answer = edit_page(0x40003000, MPT_RX);
+    expect("F: refused", mpt_refused(answer), 0);
+    expect("F: stores", mpt_stores(answer), 1);
+    expect("F: all", mpt_all(answer), 1);
+    expect("F: fence", mpt_fence(answer), MPT_FENCE_ADDRESS);
+    expect("F: fence SDID", mpt_fence_sdid(answer), 5);
     expect("F: L1 entry 0 after", words[512], 0x1002);
 }
 
 static void last_calls(void)
 {
-    uint64_t fence[3] = {9, 9, 9};
-    expect("sound", mpt_sound(PAW, FIRST, words, COUNT, slots, 8), MPT_DONE);
-    expect("sound, broken frame", mpt_sound(29, FIRST, words, COUNT, slots, 8), MPT_BAD_FRAME);
+    expect("sound", mpt_sound(PAW, FIRST, words, COUNT, slots), MPT_FINE);
+    expect("sound, broken frame", mpt_sound(29, FIRST, words, COUNT, slots), MPT_BAD_FRAME);
     expect("privilege 2", mpt_lookup(PAW, FIRST, words, COUNT, 0, 2, MPT_LOAD, 0), MPT_OUTSIDE_KIND);
-    expect("close, no room", mpt_close(PAW, FIRST, words, COUNT, slots, 8, 0, fence, 2), MPT_OUTSIDE_KIND);
-    expect("close", mpt_close(PAW, FIRST, words, COUNT, slots, 8, 0, fence, 3), MPT_DONE);
-    expect("close: fence", fence[0], MPT_FENCE_DOMAIN);
-    expect("close: fence SDID", fence[1], 5);
-    expect("close: slot", slots[0], 0);
+    expect("permission 4", edit_page(0, 4), MPT_OUTSIDE_KIND);
+    uint64_t answer = mpt_close(PAW, FIRST, words, COUNT, slots, 0);
+    expect("close: refused", mpt_refused(answer), 0);
+    expect("close: fence", mpt_fence(answer), MPT_FENCE_DOMAIN);
+    expect("close: fence SDID", mpt_fence_sdid(answer), 5);
+    slots[0] = 0;
+    expect("close again", mpt_close(PAW, FIRST, words, COUNT, slots, 0), MPT_BAD_SLOT);
 }
 
 int main(void)

@@ -2,27 +2,26 @@
  *
  * What every call shares
  *
- *   paw         the physical address width, 30 to 34
- *   first       the page number of the first lent page: an address divided by 4,096
- *   words       the lent table memory, one entry of 8 bytes a word, lowest address first; low byte
- *               first in memory, as a little-endian machine has it
- *   count       how many words: 512 for each page, 2 to 256 whole pages
- *   slots       the eight slots, each an mmpt value; zero means empty
- *   slot_count  how many words slots has: 8
+ *   paw     the physical address width, 30 to 34
+ *   first   the page number of the first lent page: an address divided by 4,096
+ *   words   the lent table memory, one entry of 8 bytes a word, lowest address first; low byte first
+ *           in memory, as a little-endian machine has it
+ *   count   how many words: 512 for each page, 2 to 256 whole pages
+ *   slots   the eight slots, each an mmpt value; zero means empty. A call reads them and never writes
+ *           them: the caller keeps them, and after an open or a close writes the one word that the
+ *           call's comment names
  *
- * A pointer must be aligned to 8 bytes and good for its count of words. No two may overlap. Nothing
- * is kept after the call returns, and nothing is allocated.
+ * A pointer must be aligned to 8 bytes and good for its count of words, and slots for eight. Slots
+ * and words may not overlap. Nothing is kept after the call returns, and nothing is allocated.
  *
- * What every call answers
+ * What every call answers: one word
  *
- *   0           done; of a lookup: allowed
- *   1 to 8      refused: the numbers of document 01, named below
- *   255         an argument is outside its kind: a privilege, kind or permission code that is not
- *               listed here, slot_count not 8, or room for the answer too short. Tested first.
- *   257 261 263 of a lookup alone, a fault: 256 and the cause
+ *   1 to 8  refused: the numbers of document 01, named below; mpt_refused tells them apart
+ *   255     a privilege, kind or permission code that is not listed here; tested first
+ *   else    what the call's comment says; mpt_all, mpt_stores, mpt_fence and mpt_fence_sdid take the
+ *           word of a close or an edit apart
  *
- * With any answer but 0 no word of the lent memory and no slot has changed, no fence is asked, and
- * what stands at fence or answer means nothing.
+ * A call that is refused or answers 255 has changed no word of the lent memory and asks no fence.
  */
 #ifndef MPT_H
 #define MPT_H
@@ -36,7 +35,7 @@ extern "C" {
 
 /* Answers. Lowest number first where several fit, except that 8 comes before 7. */
 enum {
-    MPT_DONE = 0,         /* done, allowed or sound */
+    MPT_FINE = 0,         /* lookup: allowed; check: sound */
     MPT_BAD_FRAME = 1,    /* PAW, page count or first page out of bounds, or not whole pages */
     MPT_BAD_REGISTER = 2, /* lookup: MODE above 1, or Bare with PPN or SDID not zero */
     MPT_NOT_SOUND = 3,    /* open, close, edit: the table is not sound */
@@ -86,54 +85,82 @@ enum { MPT_FENCE_NONE = 0, MPT_FENCE_DOMAIN = 1, MPT_FENCE_ADDRESS = 2 };
 uint64_t mpt_lookup(uint64_t paw, uint64_t first, const uint64_t *words, size_t count, uint64_t mmpt,
                     uint64_t privilege, uint64_t kind, uint64_t address);
 
-/* Opens an empty slot for a domain: takes the lowest free page, zeroes it, and sets the slot to
- * MODE 1, this SDID and that page. The new register is then slots[slot]. No fence is needed.
+/* Opens an empty slot for a domain: takes the lowest free page and zeroes it. No fence is needed.
  *
  *   slot  0 to 7
  *   sdid  0 to 63, held by no other open slot
  *
- * Answers 0 opened; 1, 3, 4, 8 or 7 refused; 255.
+ * Answers the register of the new domain (MODE 1, this SDID, that page; never below 2^60), which the
+ * caller then writes to slots[slot]; 1, 3, 4, 8 or 7 refused.
  */
-uint64_t mpt_open(uint64_t paw, uint64_t first, uint64_t *words, size_t count, uint64_t *slots,
-                  size_t slot_count, uint64_t slot, uint64_t sdid);
+uint64_t mpt_open(uint64_t paw, uint64_t first, uint64_t *words, size_t count,
+                  const uint64_t slots[8], uint64_t slot, uint64_t sdid);
 
-/* Empties a slot. Writes no word of the lent memory. The fence must come before the SDID is used
- * again.
+/* Closes a slot. The caller then writes zero to slots[slot], and makes the fence before the SDID is
+ * used again.
  *
- *   fence        room for three words: the fence's kind (always MPT_FENCE_DOMAIN), its SDID, 0
- *   fence_count  how many words fence has: at least 3
- *
- * Answers 0 closed; 1, 3 or 4 refused; 255.
+ * Answers 256, and the fence (always MPT_FENCE_DOMAIN) as mpt_fence and mpt_fence_sdid read it;
+ * 1, 3 or 4 refused.
  */
-uint64_t mpt_close(uint64_t paw, uint64_t first, const uint64_t *words, size_t count, uint64_t *slots,
-                   size_t slot_count, uint64_t slot, uint64_t *fence, size_t fence_count);
+uint64_t mpt_close(uint64_t paw, uint64_t first, const uint64_t *words, size_t count,
+                   const uint64_t slots[8], uint64_t slot);
 
 /* Gives every page of a range one permission in the domain of a slot. Makes the first stores of
  * document 01's ordered list, up to the limit. After a cut edit the next edit in that domain must be
  * the same one, finished, and then the whole domain fenced, whatever that call asks.
  *
- *   slot          an open slot, 0 to 7
- *   start         the first address; a multiple of 4,096
- *   length        in bytes; a multiple of 4,096, not 0
- *   permission    MPT_NONE to MPT_RWX
- *   limit         the most stores to make; 1,536 is always enough
- *   answer        room for five words: the stores made; 1 if that was all of them, else 0; the
- *                 fence's kind; its SDID (0 where there is none); its address (0 where there is
- *                 none)
- *   answer_count  how many words answer has: at least 5
+ *   slot        an open slot, 0 to 7
+ *   start       the first address; a multiple of 4,096
+ *   length      in bytes; a multiple of 4,096, not 0
+ *   permission  MPT_NONE to MPT_RWX
+ *   limit       the most stores to make; 1,536 is always enough
  *
- * Answers 0 done, as far as the limit; 1, 3, 4, 5, 6 or 7 refused; 255.
+ * Answers 256, and in the bits above: how many stores were made (mpt_stores), whether those were all
+ * (mpt_all), and the fence (mpt_fence, mpt_fence_sdid; an address fence is for the address start);
+ * 1, 3, 4, 5, 6 or 7 refused; 255.
  */
-uint64_t mpt_edit(uint64_t paw, uint64_t first, uint64_t *words, size_t count, const uint64_t *slots,
-                  size_t slot_count, uint64_t slot, uint64_t start, uint64_t length,
-                  uint64_t permission, uint64_t limit, uint64_t *answer, size_t answer_count);
+uint64_t mpt_edit(uint64_t paw, uint64_t first, uint64_t *words, size_t count,
+                  const uint64_t slots[8], uint64_t slot, uint64_t start, uint64_t length,
+                  uint64_t permission, uint64_t limit);
 
 /* Is the whole table sound? Changes nothing.
  *
- * Answers 0 sound; 1 the frame breaks its bounds; 3 not sound; 255.
+ * Answers 0 sound; 1 the frame breaks its bounds; 3 not sound.
  */
 uint64_t mpt_sound(uint64_t paw, uint64_t first, const uint64_t *words, size_t count,
-                   const uint64_t *slots, size_t slot_count);
+                   const uint64_t slots[8]);
+
+/* The parts of an answer. */
+
+/* Of an open, a close or an edit: the refusal's number or 255, and 0 if the call was made. */
+static inline uint64_t mpt_refused(uint64_t answer)
+{
+    return answer < 256 ? answer : 0;
+}
+
+/* Of an edit: bits 57:18, how many stores were made. */
+static inline uint64_t mpt_stores(uint64_t answer)
+{
+    return answer >> 18 & ((UINT64_C(1) << 40) - 1);
+}
+
+/* Of an edit: bit 9, whether those were all. */
+static inline int mpt_all(uint64_t answer)
+{
+    return answer >> 9 & 1;
+}
+
+/* Of a close or an edit: bits 11:10, the fence's kind. */
+static inline uint64_t mpt_fence(uint64_t answer)
+{
+    return answer >> 10 & 3;
+}
+
+/* Of a close or an edit that asks a fence: bits 17:12, its SDID. */
+static inline uint64_t mpt_fence_sdid(uint64_t answer)
+{
+    return answer >> 12 & 63;
+}
 
 #ifdef __cplusplus
 }

@@ -2,7 +2,7 @@
 
 use crate::interface::Interface;
 
-/// As in `include/mpt.h`, which explains each argument and code.
+/// As in `include/mpt.h`, which explains each argument and each part of the one word that is answered.
 mod c {
     extern "C" {
         pub fn mpt_lookup(
@@ -20,8 +20,7 @@ mod c {
             first: u64,
             words: *mut u64,
             count: usize,
-            slots: *mut u64,
-            slot_count: usize,
+            slots: *const [u64; 8],
             slot: u64,
             sdid: u64,
         ) -> u64;
@@ -30,35 +29,22 @@ mod c {
             first: u64,
             words: *const u64,
             count: usize,
-            slots: *mut u64,
-            slot_count: usize,
+            slots: *const [u64; 8],
             slot: u64,
-            fence: *mut u64,
-            fence_count: usize,
         ) -> u64;
         pub fn mpt_edit(
             paw: u64,
             first: u64,
             words: *mut u64,
             count: usize,
-            slots: *const u64,
-            slot_count: usize,
+            slots: *const [u64; 8],
             slot: u64,
             start: u64,
             length: u64,
             permission: u64,
             limit: u64,
-            answer: *mut u64,
-            answer_count: usize,
         ) -> u64;
-        pub fn mpt_sound(
-            paw: u64,
-            first: u64,
-            words: *const u64,
-            count: usize,
-            slots: *const u64,
-            slot_count: usize,
-        ) -> u64;
+        pub fn mpt_sound(paw: u64, first: u64, words: *const u64, count: usize, slots: *const [u64; 8]) -> u64;
     }
 }
 
@@ -66,31 +52,40 @@ mod c {
 #[derive(Clone, Copy, Debug, Default)]
 pub struct Proved;
 
-// SAFETY of all five: each pointer comes from a slice with its own length, the borrows say which
-// may be written and that none overlap, and the library keeps none of them after the call.
+/// Answers below this are refusals, and 255.
+const DONE: u64 = 256;
+
+/// A fence out of an answer: its kind, its SDID, and its address, which is where the edit starts.
+fn fence(answer: u64, start: u64) -> [u64; 3] {
+    let kind = answer >> 10 & 3;
+    [kind, answer >> 12 & 63, if kind == 2 { start } else { 0 }]
+}
+
+// SAFETY of all five: each pointer comes from a slice with its own length or from an array of eight,
+// the borrows say which may be written and that none overlap, and the library keeps none of them
+// after the call.
 impl Interface for Proved {
     fn lookup(&self, paw: u64, first: u64, words: &[u64], mmpt: u64, privilege: u64, kind: u64, address: u64) -> u64 {
         unsafe { c::mpt_lookup(paw, first, words.as_ptr(), words.len(), mmpt, privilege, kind, address) }
     }
 
-    fn open(&self, paw: u64, first: u64, words: &mut [u64], slots: &mut [u64], slot: u64, sdid: u64) -> u64 {
-        unsafe { c::mpt_open(paw, first, words.as_mut_ptr(), words.len(), slots.as_mut_ptr(), slots.len(), slot, sdid) }
+    fn open(&self, paw: u64, first: u64, words: &mut [u64], slots: &mut [u64; 8], slot: u64, sdid: u64) -> u64 {
+        let answer = unsafe { c::mpt_open(paw, first, words.as_mut_ptr(), words.len(), slots, slot, sdid) };
+        if answer < DONE {
+            return answer;
+        }
+        slots[slot as usize] = answer;
+        0
     }
 
-    fn close(&self, paw: u64, first: u64, words: &[u64], slots: &mut [u64], slot: u64, fence: &mut [u64]) -> u64 {
-        unsafe {
-            c::mpt_close(
-                paw,
-                first,
-                words.as_ptr(),
-                words.len(),
-                slots.as_mut_ptr(),
-                slots.len(),
-                slot,
-                fence.as_mut_ptr(),
-                fence.len(),
-            )
+    fn close(&self, paw: u64, first: u64, words: &[u64], slots: &mut [u64; 8], slot: u64, asked: &mut [u64; 3]) -> u64 {
+        let answer = unsafe { c::mpt_close(paw, first, words.as_ptr(), words.len(), slots, slot) };
+        if answer < DONE {
+            return answer;
         }
+        slots[slot as usize] = 0;
+        *asked = fence(answer, 0);
+        0
     }
 
     fn edit(
@@ -98,36 +93,25 @@ impl Interface for Proved {
         paw: u64,
         first: u64,
         words: &mut [u64],
-        slots: &[u64],
+        slots: &[u64; 8],
         slot: u64,
         start: u64,
         length: u64,
         permission: u64,
         limit: u64,
-        answer: &mut [u64],
+        made: &mut [u64; 5],
     ) -> u64 {
-        let (words, count) = (words.as_mut_ptr(), words.len());
-        let (room, room_count) = (answer.as_mut_ptr(), answer.len());
-        unsafe {
-            c::mpt_edit(
-                paw,
-                first,
-                words,
-                count,
-                slots.as_ptr(),
-                slots.len(),
-                slot,
-                start,
-                length,
-                permission,
-                limit,
-                room,
-                room_count,
-            )
+        let (at, count) = (words.as_mut_ptr(), words.len());
+        let answer = unsafe { c::mpt_edit(paw, first, at, count, slots, slot, start, length, permission, limit) };
+        if answer < DONE {
+            return answer;
         }
+        let [kind, sdid, address] = fence(answer, start);
+        *made = [answer >> 18 & 0xFF_FFFF_FFFF, answer >> 9 & 1, kind, sdid, address];
+        0
     }
 
-    fn sound(&self, paw: u64, first: u64, words: &[u64], slots: &[u64]) -> u64 {
-        unsafe { c::mpt_sound(paw, first, words.as_ptr(), words.len(), slots.as_ptr(), slots.len()) }
+    fn sound(&self, paw: u64, first: u64, words: &[u64], slots: &[u64; 8]) -> u64 {
+        unsafe { c::mpt_sound(paw, first, words.as_ptr(), words.len(), slots) }
     }
 }

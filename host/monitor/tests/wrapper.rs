@@ -23,12 +23,12 @@ impl Interface for Canned {
         self.keep(&[paw, first, words.len() as u64, mmpt, privilege, kind, address])
     }
 
-    fn open(&self, paw: u64, first: u64, words: &mut [u64], slots: &mut [u64], slot: u64, sdid: u64) -> u64 {
+    fn open(&self, paw: u64, first: u64, words: &mut [u64], slots: &mut [u64; 8], slot: u64, sdid: u64) -> u64 {
         slots[1] = 0x77;
         self.keep(&[paw, first, words.len() as u64, slots.len() as u64, slot, sdid])
     }
 
-    fn close(&self, paw: u64, first: u64, words: &[u64], slots: &mut [u64], slot: u64, fence: &mut [u64]) -> u64 {
+    fn close(&self, paw: u64, first: u64, words: &[u64], slots: &mut [u64; 8], slot: u64, fence: &mut [u64; 3]) -> u64 {
         fence.copy_from_slice(&self.answer[2..]);
         self.keep(&[paw, first, words.len() as u64, slots.len() as u64, slot])
     }
@@ -38,19 +38,19 @@ impl Interface for Canned {
         paw: u64,
         first: u64,
         words: &mut [u64],
-        slots: &[u64],
+        slots: &[u64; 8],
         slot: u64,
         start: u64,
         length: u64,
         permission: u64,
         limit: u64,
-        answer: &mut [u64],
+        answer: &mut [u64; 5],
     ) -> u64 {
         answer.copy_from_slice(&self.answer);
         self.keep(&[paw, first, words.len() as u64, slots.len() as u64, slot, start, length, permission, limit])
     }
 
-    fn sound(&self, paw: u64, first: u64, words: &[u64], slots: &[u64]) -> u64 {
+    fn sound(&self, paw: u64, first: u64, words: &[u64], slots: &[u64; 8]) -> u64 {
         self.keep(&[paw, first, words.len() as u64, slots.len() as u64])
     }
 }

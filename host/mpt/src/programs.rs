@@ -43,11 +43,11 @@ impl Interface for Plain {
         plain::lookup(paw, first, words, mmpt, privilege, kind, address)
     }
 
-    fn open(&self, paw: u64, first: u64, words: &mut [u64], slots: &mut [u64], slot: u64, sdid: u64) -> u64 {
+    fn open(&self, paw: u64, first: u64, words: &mut [u64], slots: &mut [u64; 8], slot: u64, sdid: u64) -> u64 {
         plain::open(paw, first, words, slots, slot, sdid)
     }
 
-    fn close(&self, paw: u64, first: u64, words: &[u64], slots: &mut [u64], slot: u64, fence: &mut [u64]) -> u64 {
+    fn close(&self, paw: u64, first: u64, words: &[u64], slots: &mut [u64; 8], slot: u64, fence: &mut [u64; 3]) -> u64 {
         plain::close(paw, first, words, slots, slot, fence)
     }
 
@@ -56,18 +56,18 @@ impl Interface for Plain {
         paw: u64,
         first: u64,
         words: &mut [u64],
-        slots: &[u64],
+        slots: &[u64; 8],
         slot: u64,
         start: u64,
         length: u64,
         permission: u64,
         limit: u64,
-        answer: &mut [u64],
+        answer: &mut [u64; 5],
     ) -> u64 {
         plain::edit(paw, first, words, slots, slot, start, length, permission, limit, answer)
     }
 
-    fn sound(&self, paw: u64, first: u64, words: &[u64], slots: &[u64]) -> u64 {
+    fn sound(&self, paw: u64, first: u64, words: &[u64], slots: &[u64; 8]) -> u64 {
         plain::sound(paw, first, words, slots)
     }
 }
@@ -89,16 +89,14 @@ impl Interface for Second {
         }
     }
 
-    fn open(&self, paw: u64, first: u64, words: &mut [u64], slots: &mut [u64], slot: u64, sdid: u64) -> u64 {
-        let Ok(slots) = slots.try_into() else { return OUTSIDE_KIND };
+    fn open(&self, paw: u64, first: u64, words: &mut [u64], slots: &mut [u64; 8], slot: u64, sdid: u64) -> u64 {
         second::open(Frame { paw, first }, words, slots, slot, sdid).map_or_else(|number| number, |_| 0)
     }
 
-    fn close(&self, paw: u64, first: u64, words: &[u64], slots: &mut [u64], slot: u64, fence: &mut [u64]) -> u64 {
-        let (Ok(slots), 3..) = (slots.try_into(), fence.len()) else { return OUTSIDE_KIND };
+    fn close(&self, paw: u64, first: u64, words: &[u64], slots: &mut [u64; 8], slot: u64, fence: &mut [u64; 3]) -> u64 {
         match second::close(Frame { paw, first }, words, slots, slot) {
             Ok(asked) => {
-                fence[..3].copy_from_slice(&fence_words(asked));
+                *fence = fence_words(asked);
                 0
             }
             Err(number) => number,
@@ -110,33 +108,34 @@ impl Interface for Second {
         paw: u64,
         first: u64,
         words: &mut [u64],
-        slots: &[u64],
+        slots: &[u64; 8],
         slot: u64,
         start: u64,
         length: u64,
         permission: u64,
         limit: u64,
-        answer: &mut [u64],
+        answer: &mut [u64; 5],
     ) -> u64 {
-        let (Ok(slots), 0..=3, 5..) = (slots.try_into(), permission, answer.len()) else { return OUTSIDE_KIND };
+        let 0..=3 = permission else { return OUTSIDE_KIND };
         let asked = Asked { slot, start, length, permission: permission as u8 };
         match second::edit(Frame { paw, first }, words, slots, asked, limit) {
             Ok(edited) => {
-                answer[..2].copy_from_slice(&[edited.stores, u64::from(edited.all)]);
-                answer[2..5].copy_from_slice(&fence_words(edited.fence));
+                let [kind, sdid, address] = fence_words(edited.fence);
+                *answer = [edited.stores, u64::from(edited.all), kind, sdid, address];
                 0
             }
             Err(number) => number,
         }
     }
 
-    fn sound(&self, paw: u64, first: u64, words: &[u64], slots: &[u64]) -> u64 {
+    fn sound(&self, paw: u64, first: u64, words: &[u64], slots: &[u64; 8]) -> u64 {
         let frame = Frame { paw, first };
-        match slots.try_into() {
-            Err(_) => OUTSIDE_KIND,
-            Ok(_) if !frame.within_bounds(words) => 1,
-            Ok(slots) if second::sound(frame, words, slots) => 0,
-            Ok(_) => 3,
+        if !frame.within_bounds(words) {
+            1
+        } else if !second::sound(frame, words, slots) {
+            3
+        } else {
+            0
         }
     }
 }

@@ -1,26 +1,25 @@
 //! The whole-table check, in two versions that differ in how an L1 page is tested.
 
 use crate::lent::{sdid, Lent, Used, PPN, WPRI};
-use crate::{BAD_FRAME, DONE, NOT_SOUND, OUTSIDE_KIND};
+use crate::{BAD_FRAME, DONE, NOT_SOUND};
 
 /// The two reserved bits of each of 16 fields.
 const RESERVED: u64 = 0xCCCC_CCCC_CCCC_CCCC;
 
 /// Hand-tuned: the entries of an L1 page are gathered by OR and tested once.
-pub fn sound(paw: u64, first: u64, words: &[u64], slots: &[u64]) -> u64 {
+pub fn sound(paw: u64, first: u64, words: &[u64], slots: &[u64; 8]) -> u64 {
     answer(paw, first, words, slots, |lent, slots| used_pages(lent, words, slots).is_some())
 }
 
 /// Obvious: each entry of an L1 page is tested by the mask.
 #[inline(never)]
-pub fn sound_obvious(paw: u64, first: u64, words: &[u64], slots: &[u64]) -> u64 {
+pub fn sound_obvious(paw: u64, first: u64, words: &[u64], slots: &[u64; 8]) -> u64 {
     let clean = |page: &[u64]| page.iter().all(|entry| entry & RESERVED == 0);
     answer(paw, first, words, slots, |lent, slots| check(lent, words, slots, clean).is_some())
 }
 
 #[inline(always)]
-fn answer(paw: u64, first: u64, words: &[u64], slots: &[u64], is_sound: impl Fn(Lent, &[u64; 8]) -> bool) -> u64 {
-    let Ok(slots) = slots.try_into() else { return OUTSIDE_KIND };
+fn answer(paw: u64, first: u64, words: &[u64], slots: &[u64; 8], is_sound: impl Fn(Lent, &[u64; 8]) -> bool) -> u64 {
     let Some(lent) = Lent::new(paw, first, words.len()) else { return BAD_FRAME };
     if is_sound(lent, slots) {
         DONE

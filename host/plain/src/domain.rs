@@ -4,8 +4,7 @@ use crate::check::used_pages;
 use crate::lent::{sdid, Lent};
 use crate::*;
 
-pub fn open(paw: u64, first: u64, words: &mut [u64], slots: &mut [u64], slot: u64, new_sdid: u64) -> u64 {
-    let Ok(slots) = <&mut [u64; 8]>::try_from(slots) else { return OUTSIDE_KIND };
+pub fn open(paw: u64, first: u64, words: &mut [u64], slots: &mut [u64; 8], slot: u64, new_sdid: u64) -> u64 {
     let Some(lent) = Lent::new(paw, first, words.len()) else { return BAD_FRAME };
     let Some(mut used) = used_pages(lent, words, slots) else { return NOT_SOUND };
     if slot > 7 || slots[slot as usize] != 0 {
@@ -20,9 +19,7 @@ pub fn open(paw: u64, first: u64, words: &mut [u64], slots: &mut [u64], slot: u6
     DONE
 }
 
-pub fn close(paw: u64, first: u64, words: &[u64], slots: &mut [u64], slot: u64, fence: &mut [u64]) -> u64 {
-    let Ok(slots) = <&mut [u64; 8]>::try_from(slots) else { return OUTSIDE_KIND };
-    let Some(fence) = fence.first_chunk_mut::<3>() else { return OUTSIDE_KIND };
+pub fn close(paw: u64, first: u64, words: &[u64], slots: &mut [u64; 8], slot: u64, fence: &mut [u64; 3]) -> u64 {
     let Some(lent) = Lent::new(paw, first, words.len()) else { return BAD_FRAME };
     if used_pages(lent, words, slots).is_none() {
         return NOT_SOUND;

@@ -16,17 +16,17 @@ pub fn edit(
     paw: u64,
     first: u64,
     words: &mut [u64],
-    slots: &[u64],
+    slots: &[u64; 8],
     slot: u64,
     start: u64,
     length: u64,
     permission: u64,
     limit: u64,
-    answer: &mut [u64],
+    answer: &mut [u64; 5],
 ) -> u64 {
-    let (Ok(slots), Some(answer), 0..=3) = (slots.try_into(), answer.first_chunk_mut(), permission) else {
+    if permission > 3 {
         return OUTSIDE_KIND;
-    };
+    }
     let Some(lent) = Lent::new(paw, first, words.len()) else { return BAD_FRAME };
     let Some(used) = used_pages(lent, words, slots) else { return NOT_SOUND };
     if slot > 7 || slots[slot as usize] == 0 {

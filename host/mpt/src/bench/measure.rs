@@ -109,12 +109,12 @@ mod tests {
             PLAIN.interface.lookup(a, b, c, d, e, f, g)
         }
 
-        fn open(&self, a: u64, b: u64, c: &mut [u64], d: &mut [u64], e: u64, f: u64) -> u64 {
+        fn open(&self, a: u64, b: u64, c: &mut [u64], d: &mut [u64; 8], e: u64, f: u64) -> u64 {
             self.pass(self.call);
             PLAIN.interface.open(a, b, c, d, e, f)
         }
 
-        fn close(&self, a: u64, b: u64, c: &[u64], d: &mut [u64], e: u64, f: &mut [u64]) -> u64 {
+        fn close(&self, a: u64, b: u64, c: &[u64], d: &mut [u64; 8], e: u64, f: &mut [u64; 3]) -> u64 {
             self.pass(self.call);
             PLAIN.interface.close(a, b, c, d, e, f)
         }
@@ -124,19 +124,19 @@ mod tests {
             a: u64,
             b: u64,
             c: &mut [u64],
-            d: &[u64],
+            d: &[u64; 8],
             e: u64,
             f: u64,
             g: u64,
             h: u64,
             i: u64,
-            j: &mut [u64],
+            j: &mut [u64; 5],
         ) -> u64 {
             self.pass(self.call);
             PLAIN.interface.edit(a, b, c, d, e, f, g, h, i, j)
         }
 
-        fn sound(&self, a: u64, b: u64, c: &[u64], d: &[u64]) -> u64 {
+        fn sound(&self, a: u64, b: u64, c: &[u64], d: &[u64; 8]) -> u64 {
             self.pass(self.check);
             PLAIN.interface.sound(a, b, c, d)
         }
