@@ -80,3 +80,7 @@ module _ (F : Frame) (m : List ℕ) (slots : List Slot) where
           joined-cong _ _ (F .pages) (F .first)
           (λ page low high. ap (λ (b : Bool). if b then [] else page ∷ [])
           (marked-exactly-in-use page (lent-between F page low high)))
+
+      -- and so are those that the check's own marks leave clear
+      pub checked-free : clearPages F (checkedOf F m slots .used) ≡ freePages F m (roots F slots)
+      checked-free = ap (clearPages F) says-used ∙ clear-is-free

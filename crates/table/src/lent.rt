@@ -8,14 +8,6 @@ ghost use Prim.Native.Nat.{_+_, _<_, _≤_, _^_};
 ghost use Rattle.model.specs.Frame as frame;
 ghost use Rattle.table.specs.Views.{frameOf, frameOver};
 
-// A power of two.
-pub fn pow2(k: u64) -> u64
-    requires { ⌜ k < 64 ⌝ }
-    ensures { λ r. ⌜ r ≡ 2 ^ k ⌝ }
-{
-    1u64 << k
-}
-
 // "PAW (30 to 34), lent table memory of 2 to 256 whole pages."
 const MIN_PAW: u64 = 30;
 
@@ -25,6 +17,15 @@ const MIN_PAGES: u64 = 2;
 
 const MAX_PAGES: u64 = 256;
 
+// A power of two.
+pub fn pow2(k: u64) -> u64
+    requires { ⌜ k < 64 ⌝ }
+    ensures { λ r. ⌜ r ≡ 2 ^ k ⌝ }
+{
+    1u64 << k
+}
+
+// A frame that breaks its bounds, or memory that is not whole pages, is refused by every call.
 pub fn frame_ok(f: Frame, words: &[u64]) -> bool
     ensures { λ r. ⌜ r ≡ frame.frameOk (frameOf f (now (words .entry))) (now (words .entry)) ⌝ }
 {

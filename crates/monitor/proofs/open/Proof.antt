@@ -1,7 +1,6 @@
 -- `monitor::open` meets its contract: each return is one of the laws of `Refusals`, by the tests so far; the marks give the free pages.
 use mathlib.Core.Path.{_≡_, sym, ap, _∙_}
-use mathlib.Core.Bool.{Bool, true, false}
-use mathlib.Core.List.{List}
+use mathlib.Core.Bool.{true, false}
 use lib.Dec.{eqb}
 use lib.ListN.{length}
 use denote.Ref.{now}
@@ -16,7 +15,7 @@ use Rattle.table.proofs.Frames.{framed, bounds}
 use Rattle.sound.specs.declared.Checked.{Checked}
 use Rattle.sound.specs.declared.Free.{Free}
 use Rattle.sound.specs.Free.{clearPages, listed}
-use Rattle.sound.proofs.Laws.{says-sound, says-used, clear-is-free, free-lent, head-lent}
+use Rattle.sound.proofs.Laws.{says-sound, checked-free, free-lent, head-lent}
 use Rattle.monitor.specs.Slots.{notEmpty, badSdid}
 use Rattle.monitor.proofs.Refusals.{open-frame, open-unsound, open-slot, open-sdid, open-no-room, open-done}
 use Rattle.monitor.proofs.Sdids.{slot-low, sdid-low}
@@ -55,8 +54,8 @@ free-are c =
     let m = now (a .words) in
     let F = frameOf (a .f) m in
     c .free-pages .ensures
-    ∙ ap (λ (marks : List Bool). listed (clearPages F marks)) (ap (λ (x : Checked). x .used) (k .check .ensures) ∙ says-used F m (a .slots) (is-sound s))
-    ∙ ap listed (clear-is-free F m (a .slots) (is-sound s) (bounds F (framed F m (frame-passes e) .0) .most))
+    ∙ ap (λ (x : Checked). listed (clearPages F (x .used))) (k .check .ensures)
+    ∙ ap listed (checked-free F m (a .slots) (is-sound s) (bounds F (framed F m (frame-passes e) .0) .most))
 
 -- whether there is one
 none-free : (c : tie.After-free-pages) → let a = c .before .before .before .before .before .before .before .before .before .before .before .before .before .before .args in
