@@ -5,7 +5,9 @@ use crate::put::put;
 use crate::put::put_changed;
 use forms::Place;
 use forms::Request;
+use forms::range::first_entry;
 use forms::range::lies;
+use forms::range::past_entry;
 use forms::words::after_word;
 use forms::words::page_at;
 use table::Entry;
@@ -45,7 +47,7 @@ pub fn same_entry(
     put_changed(words, left, at, word)
 }
 
-// Those L1 entries of block b that change, in order, in the block's own page t.
+// Those L1 entries of block b that change, in order, in the block's own page t. Entries that lie outside the range stay: they are not read.
 pub fn same_table(
     f: Frame,
     words: &mut [u64],
@@ -58,8 +60,10 @@ pub fn same_table(
     ensures { λ r. ⌜ out (r .all) (r .left) (now (words .exit))
         ≡ run left (sameTable (frameOf f (now (words .entry))) (now (words .entry)) (requestOf q) (entry.table (t .0)) b (t .0)) (now (words .entry)) ⌝ }
 {
+    let from = first_entry(q, b);
+    let to = past_entry(q, b);
     let mut more = left;
-    for i in 0..512u64 {
+    for i in from..to {
         let went = same_entry(f, words, q, t, b, i, more);
         if !went.all {
             return went;
