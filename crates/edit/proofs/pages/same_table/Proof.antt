@@ -1,60 +1,82 @@
+use mathlib.Core.Path.{_≡_, refl, sym, ap, ap₂, _∙_, subst}
+use mathlib.Core.List.{List}
+use mathlib.Core.Bool.{Bool, true, false}
+use Prim.Native.Nat.{ℕ, _+_, _-_, _≤_, _<_}
+use native.Mathlib.Omega.{arith}
+use borrow.Author.Needs.{needs}
+use borrow.Author.Tests.{not-true, not-false}
+use lib.ListN.{length}
+use Rattle.model.specs.Frame.{Frame}
+use Rattle.edit.proofs.Blocks.{Same, same-start, same-next, same-cut, same-end, frame-same}
+use Rattle.edit.proofs.Runs.{out-whole, out-cut}
+use Rattle.forms.specs.Kinds.{requestOf}
+use Rattle.model.specs.Entry.{table}
+use Rattle.table.specs.Views.{frameOf, entryOf}
+use Rattle.theory.specs.Rooted.{Good}
 use Rattle.edit.proofs.pages.same_table.Statement.{statement}
 use Rattle.edit.proofs.pages.same_table.Tie as tie
-use Rattle.edit.proofs.pages.same_table.Reads as reads
-use Rattle.edit.proofs.pages.same_table.Lts as lts
-use Rattle.edit.proofs.pages.same_entry.Reads as same-entry-reads
-use Rattle.forms.proofs.range.first_entry.Reads as first-entry-reads
-use Rattle.forms.proofs.range.past_entry.Reads as past-entry-reads
 
 abbrev Inv-loop : tie.InvT-loop
-Inv-loop f words₀ q t b from to more₀ i₀ words more i = ?
+Inv-loop f words₀ q t b from to more₀ i₀ words more i = Same f (requestOf q) (t .0) b words₀ more₀ words more i
 
 abbrev μ-loop : tie.MeasureT-loop
-μ-loop f words₀ q t b from to more₀ i₀ words more i = ?
+μ-loop f words₀ q t b from to more₀ i₀ words more i = to - i
 
--- src/pages.rt:63:9
 first-entry-requires : tie.Need-first-entry-requires Inv-loop μ-loop
-first-entry-requires c κs = ?
+first-entry-requires c κs = search needs
 
--- src/pages.rt:64:9
 past-entry-requires : tie.Need-past-entry-requires Inv-loop μ-loop
-past-entry-requires c κs = ?
+past-entry-requires c κs = search needs
 
--- src/pages.rt:66:5
 loop-holds : tie.Need-loop-holds Inv-loop μ-loop
-loop-holds c = ?
+loop-holds c =
+    let s = c .before .before .before in
+    let r = c .before .first-entry in
+    same-start _ _ _ _ _ _ (s .pre .1 .small) (s .pre .2) (λ j. omega (arith, c .before .before .slice-known .given j)) _ (r .ensures .0) (r .ensures .1)
 
--- src/pages.rt:67:13
 same-entry-requires : tie.Need-same-entry-requires Inv-loop μ-loop
-same-entry-requires c κs = ?
+same-entry-requires c κs =
+    let l = c .before .before in
+    let s = l .before .before .before .before in (
+      s .pre .0,
+      omega (arith, l .before .past-entry .ensures .0),
+      s .pre .1,
+      subst (λ (X : Frame). Good X (l .loop .words) (table (s .args .t .0))) (sym (frame-same (s .args .f) (l .loop .words) (s .args .words .now) (l .loop .inv .size))) (l .loop .inv .good),
+    )
 
--- src/pages.rt:69:13
 same-length : tie.Need-same-length Inv-loop μ-loop
-same-length c = ?
+same-length c = c .before .before .before .before .same-entry .kept .1 .0 ∙ c .before .before .before .before .before .before .before .loop .inv .size
 
--- src/pages.rt:69:13
 returns : tie.Need-returns Inv-loop μ-loop
-returns c = ?
+returns c =
+    let r = c .before .before .before .before .same-entry in
+    let l = c .before .before .before .before .before .before .before in
+    let s = l .before .before .before .before in
+    same-cut _ _ _ _ _ _ (s .pre .1 .small) (l .loop .words) (l .loop .more) (l .loop .i) (l .loop .inv) (omega (arith, l .before .past-entry .ensures .0, c .before .before .before .before .before .before .loop-test .taken)) _ (r .ensures)
+    (out-cut (r .result .all) (r .result .left) (r .last .1 .0) (not-true (r .result .all) (c .if1 .taken)))
 
--- src/pages.rt:66:9
 add-i : tie.Need-add-i Inv-loop μ-loop
-add-i c = ?
+add-i c = let s = c .before .before .before .before .before .before .before .before .loop .inv in omega arith
 
--- src/pages.rt:66:5
 loop-less : tie.Need-loop-less Inv-loop μ-loop
-loop-less c = ?
+loop-less c = let s = c .before .before .before .before .before .before .before .before .loop .inv in omega arith
 
--- src/pages.rt:66:5
 loop-again : tie.Need-loop-again Inv-loop μ-loop
-loop-again c = ?
+loop-again c =
+    let r = c .before .before .before .before .before .same-entry in
+    let l = c .before .before .before .before .before .before .before .before in
+    let s = l .before .before .before .before in
+    same-next _ _ _ _ _ _ (s .pre .1 .small) (l .loop .words) (l .loop .more) (l .loop .i) (l .loop .inv) (omega (arith, l .before .past-entry .ensures .0, c .before .before .before .before .before .before .before .loop-test .taken)) _ (r .ensures)
+    (out-whole (r .result .all) (r .result .left) (r .last .1 .0) (not-false (r .result .all) (c .before .if1 .left)))
 
--- src/pages.rt:51:1
 same-length-2 : tie.Need-same-length-2 Inv-loop μ-loop
-same-length-2 c = ?
+same-length-2 c = c .before .loop .inv .size
 
--- src/pages.rt:51:1
 returns-2 : tie.Need-returns-2 Inv-loop μ-loop
-returns-2 c = ?
+returns-2 c =
+    let l = c .before in
+    let s = l .before .before .before .before in
+    same-end _ _ _ _ _ _ (s .pre .1 .small) (s .pre .2) (λ j. omega (arith, l .before .before .before .slice-known .given j)) _ (l .before .past-entry .ensures .1) _ _ _ (l .loop .inv) (c .loop-test .left)
 
 pub same-table-spec : {M : Type 1} → statement M
 same-table-spec =
