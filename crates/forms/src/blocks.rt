@@ -2,8 +2,7 @@
 use crate::Form;
 use crate::Place;
 use crate::Request;
-use crate::pieces::piece_first;
-use crate::pieces::piece_is;
+use crate::pieces::piece_at;
 use crate::range::lies;
 use crate::words::page_at;
 use table::Entry;
@@ -28,11 +27,11 @@ pub fn pieces_form(f: Frame, words: &[u64], q: Request, e: Entry, b: u64) -> For
 {
     let mut info: u64 = 0;
     for j in 0..16u64 {
-        let p = piece_first(f, words, q, e, b, 15 - j);
-        if !piece_is(f, words, q, e, b, 15 - j, p) {
+        let piece = piece_at(f, words, q, e, b, 15 - j);
+        if !piece.one {
             return Form::Table;
         }
-        info = p + 4 * info;
+        info = piece.p + 4 * info;
     }
     Form::Pieces(info)
 }
@@ -43,7 +42,8 @@ pub fn piece_is_one(f: Frame, words: &[u64], q: Request, e: Entry, b: u64, i: u6
     ensures { λ r. ⌜ r ≡ allAre (frameOf f (now (words .entry))) (now (words .entry)) (requestOf q) (entryOf e)
         (afterIn (frameOf f (now (words .entry))) (now (words .entry)) (requestOf q) (entryOf e) (b * 8192 + i * 512)) 512 (b * 8192 + i * 512) ⌝ }
 {
-    piece_is(f, words, q, e, b, i, piece_first(f, words, q, e, b, i))
+    let piece = piece_at(f, words, q, e, b, i);
+    piece.one
 }
 
 // The same for a block across an end of the range. The pieces at the ends of the range come first: if one is mixed, the others are not read.

@@ -2,9 +2,8 @@
 use crate::Place;
 use crate::Request;
 ghost use mathlib.Core.Path.{_≡_};
-ghost use mathlib.Core.Bool.{false};
-ghost use Prim.Native.Nat.{ℕ, _+_, _*_, _≤_, _<_, _^_};
-ghost use Rattle.forms.specs.Kinds.{requestOf, Fair, Lies};
+ghost use Prim.Native.Nat.{_+_, _≤_, _<_, _^_};
+ghost use Rattle.forms.specs.Kinds.{requestOf, Fair, Lies, Below, Past};
 ghost use Rattle.model.specs.Forms.{inRange};
 
 // Where the n pages from page s lie.
@@ -45,7 +44,7 @@ pub fn in_range(q: Request, n: u64) -> bool
 // The first L1 entry of block b that the range can meet: no page of an entry below it lies in the range.
 pub fn first_entry(q: Request, b: u64) -> u64
     requires { ⌜ (b < 512) × Fair q ⌝ }
-    ensures { λ r. ⌜ (r ≤ 512) × ((k : ℕ) → k < b * 8192 + r * 16 → b * 8192 ≤ k → inRange (requestOf q) k ≡ false) ⌝ }
+    ensures { λ r. ⌜ (r ≤ 512) × Below (requestOf q) b r ⌝ }
 {
     let low = q.start.0 / 65536;
     let base = b * 512;
@@ -61,7 +60,7 @@ pub fn first_entry(q: Request, b: u64) -> u64
 // The L1 entry of block b from which on no page lies in the range.
 pub fn past_entry(q: Request, b: u64) -> u64
     requires { ⌜ (b < 512) × Fair q ⌝ }
-    ensures { λ r. ⌜ (r ≤ 512) × ((k : ℕ) → b * 8192 + r * 16 ≤ k → k < b * 8192 + 8192 → inRange (requestOf q) k ≡ false) ⌝ }
+    ensures { λ r. ⌜ (r ≤ 512) × Past (requestOf q) b r ⌝ }
 {
     let high = (q.start.0 + q.size + 65535) / 65536;
     let base = b * 512;

@@ -8,22 +8,17 @@ use Rattle.forms.proofs.blocks.piece_is_one.Statement.{statement}
 use Rattle.forms.proofs.blocks.piece_is_one.Tie as tie
 use Rattle.forms.proofs.blocks.piece_is_one.Reads as reads
 use Rattle.forms.proofs.blocks.piece_is_one.Lts as lts
-use Rattle.forms.proofs.pieces.piece_first.Reads as piece-first-reads
-use Rattle.forms.proofs.pieces.piece_is.Reads as piece-is-reads
+use Rattle.forms.proofs.pieces.piece_at.Reads as piece-at-reads
 
--- src/blocks.rt:46:36
-piece-first-requires : tie.Need-piece-first-requires
-piece-first-requires c κs = search needs
+-- src/blocks.rt:45:9
+piece-at-requires : tie.Need-piece-at-requires
+piece-at-requires c κs = search needs
 
--- src/blocks.rt:46:5
-piece-is-requires : tie.Need-piece-is-requires
-piece-is-requires c κs = search needs
-
--- src/blocks.rt:41:1
+-- src/blocks.rt:40:1
 returns : tie.Need-returns
-returns c = let a = c .before .before .before .args in
-    c .piece-is .ensures
-    ∙ ap (λ (p : ℕ). allAre (frameOf (a .f) (a .words .now)) (a .words .now) (requestOf (a .q)) (entryOf (a .e)) p 512 (a .b * 8192 + a .i * 512)) (c .before .piece-first .ensures .0)
+returns c = let a = c .before .before .args in
+    c .piece-at .ensures .1
+    ∙ ap (λ (p : ℕ). allAre (frameOf (a .f) (a .words .now)) (a .words .now) (requestOf (a .q)) (entryOf (a .e)) p 512 (a .b * 8192 + a .i * 512)) (c .piece-at .ensures .0)
 
 pub piece-is-one-spec : {M : Type 1} → statement M
-piece-is-one-spec = tie.close (tie.spec piece-first-requires piece-is-requires returns)
+piece-is-one-spec = tie.close (tie.spec piece-at-requires returns)
