@@ -12,20 +12,22 @@ use lib.Seq.{getD-set-same}
 use borrow.Author.Tests.{eqb-true, eqb-false, eq-eqb, lt-ltb}
 use Rattle.table.specs.declared.Frame as code
 use Rattle.edit.proofs.Runs.{run-none, run-on, run-off, run-whole, out-whole, out-cut, joined-turn, joined-end}
-use Rattle.edit.specs.Kinds.{Plain}
+use Rattle.edit.specs.Kinds.{Plain, storesAt}
 use Rattle.edit.specs.Run.{Out, whole, cut, out, run}
 use Rattle.edit.specs.declared.Budget.{Budget}
-use Rattle.forms.proofs.EntryLaws.{lent-in, after-small, after-16, word-outside}
+use Rattle.forms.specs.declared.Gib.{Gib}
+use Rattle.forms.specs.Kinds.{formAt}
+use Rattle.forms.proofs.EntryLaws.{lent-in, after-small, after-16, word-outside, form-flat-out, form-pieces-out, form-not}
 use Rattle.laws.proofs.Choices.{split}
 use Rattle.laws.proofs.Digits.{pack-cong, digit-pack}
 use Rattle.laws.proofs.Every.{every-all}
-use Rattle.model.specs.Entry.{Entry, flat, pieces, table, invalid, Found, clean}
-use Rattle.model.specs.Forms.{Request, inRange, permOf, afterIn, l1Word}
+use Rattle.model.specs.Entry.{Entry, flat, pieces, table, invalid, Found, clean, encode}
+use Rattle.model.specs.Forms.{Request, Form, wantPieces, inRange, permOf, afterIn, l1Word}
 use Rattle.model.specs.Frame.{Frame, lent, wordAt, indexOf}
 use Rattle.model.specs.Layout.{rv64}
 use Rattle.model.specs.Numbers.{if_then_else_, every, digit, pack, joined}
-use Rattle.model.specs.Stores.{Store, apply, storeAt, storeL2, ifChanged, ifChangedL2, sameTable, newTable}
-use Rattle.model.specs.Walk.{entryPage, entryPlace, l2Word, found, pn1}
+use Rattle.model.specs.Stores.{Store, apply, storeAt, storeL2, ifChanged, ifChangedL2, sameTable, newTable, blockStores, needsPage}
+use Rattle.model.specs.Walk.{entryPage, entryPlace, l2Word, entryAt, found, pn1}
 use Rattle.table.specs.Stored.{storeOf}
 use Rattle.table.specs.Views.{frameOf}
 use Rattle.theory.proofs.Along.{apply-none, apply-one}
@@ -304,3 +306,27 @@ own-none f m q low t b g o low64 left =
     (joined-none (λ i. ifChanged (frameOf f m) m t i (l1Word (frameOf f m) m q (table t) b i)) 512 0
     (λ i lo hi. entry-stays f m q low t b g low64 i (omega arith) (λ k l u. o k (omega arith) (omega arith))))
     ∙ run-none left m)
+
+-- ---- a block whose finished form is TYPE 6
+
+module _ (f : code.Frame) (m : List ℕ) (q : Request) (root : ℕ) (gib : Gib) (b info : ℕ) (z : wantPieces info ≡ formAt (frameOf f m) m q root gib b) where
+  pub info-stores : (new : ℕ) → ifChangedL2 (frameOf f m) m root b (0x6000_0000_0000 + info) ≡ storesAt (frameOf f m) m q root gib b new
+  unfolding blockStores encode
+  info-stores new = ap (λ (x : Form). blockStores (frameOf f m) m q root x (entryAt (frameOf f m) m root b) b new) z
+
+  pub info-next : (next : ℕ) → next ≡ (if needsPage (formAt (frameOf f m) m q root gib b) (entryAt (frameOf f m) m root b) then next + 1 else next)
+  unfolding needsPage
+  info-next next = ap (λ (x : Form). if needsPage x (entryAt (frameOf f m) m root b) then next + 1 else next) z
+
+-- outside the range, in a GiB that is not of one permission
+module _ (f : code.Frame) (m : List ℕ) (q : Request) (low : q .permission < 4) (root : ℕ) (gib : Gib) (b : ℕ) (g : Good (frameOf f m) m (entryAt (frameOf f m) m root b))
+    (mixed : gib .one ≡ false) (o : (k : ℕ) → b * 8192 ≤ k → k < b * 8192 + 8192 → inRange q k ≡ false) where
+  pub flat-form : (p : ℕ) → flat p ≡ entryAt (frameOf f m) m root b → wantPieces (p * 0x5555_5555) ≡ formAt (frameOf f m) m q root gib b
+  flat-form p e =
+      form-flat-out (f .paw) (f .first .0) (length m / 512) m q low (entryAt (frameOf f m) m root b) g b o p (sym e)
+      ∙ rw mixed (form-not (f .paw) (f .first .0) (length m / 512) m q (entryAt (frameOf f m) m root b) b (gib .p))
+
+  pub pieces-form : (x : ℕ) → pieces x ≡ entryAt (frameOf f m) m root b → x < 2 ^ 32 → wantPieces x ≡ formAt (frameOf f m) m q root gib b
+  pieces-form x e small =
+      form-pieces-out (f .paw) (f .first .0) (length m / 512) m q low (entryAt (frameOf f m) m root b) g b o x (sym e) small
+      ∙ rw mixed (form-not (f .paw) (f .first .0) (length m / 512) m q (entryAt (frameOf f m) m root b) b (gib .p))

@@ -7,23 +7,25 @@ use crate::pages::own_table;
 use crate::put::put_changed;
 use forms::Form;
 use forms::Gib;
+use forms::Place;
 use forms::Request;
 use forms::blocks::block_form;
 use forms::blocks::entry_at;
 use forms::blocks::needs_page;
+use forms::range::lies;
 use forms::words::page_at;
 use sound::Free;
 use table::Entry;
 use table::Frame;
 use table::PageNumber;
 ghost use mathlib.Core.Path.{_≡_};
-ghost use mathlib.Core.Bool.{true};
+ghost use mathlib.Core.Bool.{true, false};
 ghost use mathlib.Core.List.{headD};
-ghost use Prim.Native.Nat.{_+_, _<_, _^_};
+ghost use Prim.Native.Nat.{_+_, _*_, _<_, _^_};
 ghost use lib.ListN.{drop};
 ghost use Rattle.edit.specs.Kinds.{Encodes, storesAt, Fresh, freeList};
 ghost use Rattle.edit.specs.Run.{out, run};
-ghost use Rattle.forms.specs.Kinds.{requestOf, formOf, Fair, formAt};
+ghost use Rattle.forms.specs.Kinds.{requestOf, formOf, Fair, Lies, formAt};
 ghost use Rattle.model.specs.Forms.{wantTable};
 ghost use Rattle.model.specs.Frame.{lent, blocks};
 ghost use Rattle.model.specs.Numbers.{if_then_else_};
@@ -156,6 +158,64 @@ pub fn mixed_step(
     }
 }
 
+// A block whose finished form is TYPE 6, with these permissions.
+pub fn info_step(
+    f: Frame,
+    words: &mut [u64],
+    root: PageNumber,
+    b: u64,
+    info: u64,
+    next: u64,
+    left: Budget,
+) -> Step
+    requires { ⌜ (b < 512) × (lent (frameOf f (now words)) (root .0) ≡ true) × (info < 2 ^ 32) ⌝ }
+    ensures { λ r. ⌜ (out (r .all) (r .left) (now (words .exit))
+        ≡ run left (ifChangedL2 (frameOf f (now (words .entry))) (now (words .entry)) (root .0) b (0x6000_0000_0000 + info)) (now (words .entry))) × (r .next ≡ next) ⌝ }
+{
+    let went = put_entry(f, words, root, b, 0x6000_0000_0000 + info, left);
+    let rest = went.left;
+    Step {
+        all: went.all,
+        left: rest,
+        next: next,
+    }
+}
+
+// A block outside the range, in a GiB that is not of one permission: where it has no L1 page, its entry alone says its finished form.
+pub fn outside_step(
+    f: Frame,
+    words: &mut [u64],
+    q: Request,
+    root: PageNumber,
+    gib: Gib,
+    b: u64,
+    free: Free,
+    next: u64,
+    left: Budget,
+) -> Step
+    requires { ⌜ Rooted (frameOf f (now words)) (now words) (root .0) × (b < blocks (frameOf f (now words))) × Fair q × (gib .p < 4) × (next < 2 ^ 32)
+        × Fresh (frameOf f (now words)) (now words) (requestOf q) (root .0) gib b (headD (drop next (freeList free)) 0)
+        × (gib .one ≡ false) × Lies (requestOf q) (b * 8192) 8192 Place.Outside ⌝ }
+    ensures { λ r. ⌜ (out (r .all) (r .left) (now (words .exit))
+        ≡ run left (storesAt (frameOf f (now (words .entry))) (now (words .entry)) (requestOf q) (root .0) gib b (headD (drop next (freeList free)) 0)) (now (words .entry)))
+        × (r .next ≡ (if needsPage (formAt (frameOf f (now (words .entry))) (now (words .entry)) (requestOf q) (root .0) gib b)
+        (entryAt (frameOf f (now (words .entry))) (now (words .entry)) (root .0) b) then next + 1 else next)) ⌝ }
+{
+    let e = entry_at(f, words, root, b);
+    match e {
+        Entry::Flat(p) => info_step(f, words, root, b, p * 0x5555_5555, next, left),
+        Entry::Pieces(info) => {
+            if info < 0x1_0000_0000 {
+                info_step(f, words, root, b, info, next, left)
+            } else {
+                mixed_step(f, words, q, root, gib, b, free, next, left)
+            }
+        }
+        Entry::Table(_) => mixed_step(f, words, q, root, gib, b, free, next, left),
+        Entry::Invalid => mixed_step(f, words, q, root, gib, b, free, next, left),
+    }
+}
+
 // One block. In a GiB of one permission it is read only to see whether its entry changes.
 pub fn block_step(
     f: Frame,
@@ -176,7 +236,11 @@ pub fn block_step(
         (entryAt (frameOf f (now (words .entry))) (now (words .entry)) (root .0) b) then next + 1 else next)) ⌝ }
 {
     if !gib.one {
-        return mixed_step(f, words, q, root, gib, b, free, next, left);
+        return match lies(q, b * 8192, 8192) {
+            Place::Outside => outside_step(f, words, q, root, gib, b, free, next, left),
+            Place::Inside => mixed_step(f, words, q, root, gib, b, free, next, left),
+            Place::Across => mixed_step(f, words, q, root, gib, b, free, next, left),
+        };
     }
     let went = put_entry(f, words, root, b, gib.p * 0x1000_0000_0000, left);
     let rest = went.left;
