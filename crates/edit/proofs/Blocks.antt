@@ -4,7 +4,7 @@ use mathlib.Core.Bool.{Bool, true, false, _&&_}
 use mathlib.Core.Logic.{_≢_}
 use mathlib.Core.List.{List, [], _∷_, _++_}
 use Prim.Native.Nat.{ℕ, zero, suc, _+_, _*_, _-_, _/_, _%_, _^_, _≤_, _<_}
-use native.Mathlib.Nat.{zero-add}
+use native.Mathlib.Nat.{zero-add, add-zero}
 use native.Mathlib.Omega.{arith}
 use lib.Dec.{eqb, ltb}
 use lib.ListN.{length, getD, set, length-set}
@@ -130,6 +130,30 @@ good-plain F m m′ (pieces i) pl g = g
 good-plain F m m′ (table t) pl g = absurd pl
 good-plain F m m′ invalid pl g = g
 
+-- ---- entries outside the range
+
+joined-none : (g : ℕ → List Store) (n s : ℕ) → ((k : ℕ) → s ≤ k → k < s + n → g k ≡ []) → joined g n s ≡ []
+unfolding joined
+joined-none g zero s e = refl
+joined-none g (suc n) s e = ap₂ (λ (x y : List Store). x ++ y) (e s (omega arith) (omega arith)) (joined-none g n (suc s) (λ k lo hi. e k (omega arith) (omega arith)))
+
+pub joined-skip : (g : ℕ → List Store) (a n s : ℕ) → ((k : ℕ) → s ≤ k → k < s + a → g k ≡ []) → joined g (a + n) s ≡ joined g n (s + a)
+unfolding joined
+joined-skip g zero n s e = ap₂ (λ (x y : ℕ). joined g x y) (zero-add n) (sym (add-zero s))
+joined-skip g (suc a) n s e =
+    let u : suc a + n ≡ suc (a + n) = omega arith in
+    let v : suc s + a ≡ s + suc a = omega arith in
+    ap (λ (x : ℕ). joined g x s) u
+    ∙ ap₂ (λ (x y : List Store). x ++ y) (e s (omega arith) (omega arith)) (joined-skip g a n (suc s) (λ k lo hi. e k (omega arith) (omega arith)))
+    ∙ ap (joined g n) v
+
+-- an L1 entry whose pages lie outside the range does not change
+pub entry-stays : (f : code.Frame) (m : List ℕ) (q : Request) (low : q .permission < 4) (t b : ℕ) → Good (frameOf f m) m (table t) → ((j : ℕ) → getD m j 0 < 2 ^ 64) → (i : ℕ) → i < 512
+    → ((k : ℕ) → b * 8192 + i * 16 ≤ k → k < b * 8192 + i * 16 + 16 → inRange q k ≡ false) → ifChanged (frameOf f m) m t i (l1Word (frameOf f m) m q (table t) b i) ≡ []
+unfolding ifChanged wordAt
+entry-stays f m q low t b g low64 i h o =
+    rw (eq-eqb _ _ (word-outside (f .paw) (f .first .0) (length m / 512) m q low (table t) g b i h (low64 (indexOf (frameOf f m) t i)) o))
+
 -- ---- the entries of a block's own page, one after another
 
 -- the stores of the entries from i on, that the edit finds in m0
@@ -148,12 +172,25 @@ module _ (f : code.Frame) (q : Request) (t b : ℕ) (m0 : List ℕ) (left : Budg
     pub good : Good G m (table t)
     pub rest : run left (sameTable G m0 q (table t) b t) m0 ≡ run more (sameRest G m0 q t b (512 - i) i) m
 
-  pub same-start : Good G m0 (table t) → Same m0 left 0
-  unfolding sameTable
-  same-start g = record { few = omega arith; size = refl; ahead = λ j l u. refl; good = g; rest = refl }
-
   abbrev gs : ℕ → List Store
   gs k = ifChanged G m0 t k (l1Word G m0 q (table t) b k)
+
+  -- the entries below from lie outside the range
+  pub same-start : q .permission < 4 → Good G m0 (table t) → ((j : ℕ) → getD m0 j 0 < 2 ^ 64) → (from : ℕ) → from ≤ 512
+      → ((k : ℕ) → k < b * 8192 + from * 16 → b * 8192 ≤ k → inRange q k ≡ false) → Same m0 left from
+  unfolding sameTable
+  same-start low g low64 from few o =
+      let u : 512 ≡ from + (512 - from) = omega arith in
+      record {
+        few = few;
+        size = refl;
+        ahead = λ j l v. refl;
+        good = g;
+        rest = ap (λ (ss : List Store). run left ss m0)
+            (ap (λ (n : ℕ). joined gs n 0) u
+            ∙ joined-skip gs from (512 - from) 0 (λ i lo hi. entry-stays f m0 q low t b g low64 i (omega arith) (λ k l v. o k (omega arith) (omega arith)))
+            ∙ ap (joined gs (512 - from)) (zero-add from));
+      }
 
   module _ (low : q .permission < 4) (m : List ℕ) (more : Budget) (i : ℕ) (s : Same m more i) (h : i < 512) (o : Out)
       (said : o ≡ run more (ifChanged (frameOf f m) m t i (l1Word (frameOf f m) m q (table t) b i)) m) where
@@ -188,10 +225,15 @@ module _ (f : code.Frame) (q : Request) (t b : ℕ) (m0 : List ℕ) (left : Budg
           rest = s .rest ∙ turn ∙ run-on more (gs i) m (sym z ∙ step) (sameRest G m0 q t b (512 - (i + 1)) (i + 1));
         }
 
-  pub same-end : (m : List ℕ) (more : Budget) (i : ℕ) → Same m more i → 512 ≤ i → whole more m ≡ run left (sameTable G m0 q (table t) b t) m0
-  same-end m more i s h =
-      let z : 512 - i ≡ 0 = omega arith in
-      sym (s .rest ∙ ap (λ (ss : List Store). run more ss m) (joined-end (λ k. ifChanged G m0 t k (l1Word G m0 q (table t) b k)) (512 - i) i z) ∙ run-none more m)
+  -- the entries from to on lie outside the range
+  pub same-end : q .permission < 4 → Good G m0 (table t) → ((j : ℕ) → getD m0 j 0 < 2 ^ 64) → (to : ℕ)
+      → ((k : ℕ) → b * 8192 + to * 16 ≤ k → k < b * 8192 + 8192 → inRange q k ≡ false)
+      → (m : List ℕ) (more : Budget) (i : ℕ) → Same m more i → to ≤ i → whole more m ≡ run left (sameTable G m0 q (table t) b t) m0
+  same-end low g low64 to o m more i s h =
+      sym (s .rest
+      ∙ ap (λ (ss : List Store). run more ss m)
+      (joined-none gs (512 - i) i (λ j lo hi. entry-stays f m0 q low t b g low64 j (omega (arith, s .few)) (λ k l v. o k (omega arith) (omega (arith, s .few)))))
+      ∙ run-none more m)
 
 -- ---- the entries of a new page, one after another
 
@@ -253,17 +295,12 @@ link-end f root b w left ss m l m′ o at e len said z =
 
 -- ---- a block outside the range: its own page does not change
 
-joined-none : (g : ℕ → List Store) (n s : ℕ) → ((k : ℕ) → s ≤ k → k < s + n → g k ≡ []) → joined g n s ≡ []
-unfolding joined
-joined-none g zero s e = refl
-joined-none g (suc n) s e = ap₂ (λ (x y : List Store). x ++ y) (e s (omega arith) (omega arith)) (joined-none g n (suc s) (λ k lo hi. e k (omega arith) (omega arith)))
-
 pub own-none : (f : code.Frame) (m : List ℕ) (q : Request) (low : q .permission < 4) (t b : ℕ) → Good (frameOf f m) m (table t)
     → ((k : ℕ) → b * 8192 ≤ k → k < b * 8192 + 8192 → inRange q k ≡ false) → ((j : ℕ) → getD m j 0 < 2 ^ 64) → (left : Budget)
     → whole left m ≡ run left (sameTable (frameOf f m) m q (table t) b t) m
-unfolding sameTable ifChanged wordAt
+unfolding sameTable
 own-none f m q low t b g o low64 left =
     sym (ap (λ (ss : List Store). run left ss m)
     (joined-none (λ i. ifChanged (frameOf f m) m t i (l1Word (frameOf f m) m q (table t) b i)) 512 0
-    (λ i lo hi. rw (eq-eqb _ _ (word-outside (f .paw) (f .first .0) (length m / 512) m q low (table t) g b i (omega arith) (low64 (indexOf (frameOf f m) t i)) (λ k l u. o k (omega arith) (omega arith))))))
+    (λ i lo hi. entry-stays f m q low t b g low64 i (omega arith) (λ k l u. o k (omega arith) (omega arith))))
     ∙ run-none left m)

@@ -124,8 +124,8 @@ pub fn page_from(free: Free, next: u64) -> PageNumber
     PageNumber(0)
 }
 
-// One block: its finished form, and its stores.
-pub fn block_step(
+// A block of a GiB that need not be of one permission: its finished form, and its stores.
+pub fn mixed_step(
     f: Frame,
     words: &mut [u64],
     q: Request,
@@ -153,5 +153,36 @@ pub fn block_step(
         all: went.all,
         left: rest,
         next: after,
+    }
+}
+
+// One block. In a GiB of one permission it is read only to see whether its entry changes.
+pub fn block_step(
+    f: Frame,
+    words: &mut [u64],
+    q: Request,
+    root: PageNumber,
+    gib: Gib,
+    b: u64,
+    free: Free,
+    next: u64,
+    left: Budget,
+) -> Step
+    requires { ⌜ Rooted (frameOf f (now words)) (now words) (root .0) × (b < blocks (frameOf f (now words))) × Fair q × (gib .p < 4) × (next < 2 ^ 32)
+        × Fresh (frameOf f (now words)) (now words) (requestOf q) (root .0) gib b (headD (drop next (freeList free)) 0) ⌝ }
+    ensures { λ r. ⌜ (out (r .all) (r .left) (now (words .exit))
+        ≡ run left (storesAt (frameOf f (now (words .entry))) (now (words .entry)) (requestOf q) (root .0) gib b (headD (drop next (freeList free)) 0)) (now (words .entry)))
+        × (r .next ≡ (if needsPage (formAt (frameOf f (now (words .entry))) (now (words .entry)) (requestOf q) (root .0) gib b)
+        (entryAt (frameOf f (now (words .entry))) (now (words .entry)) (root .0) b) then next + 1 else next)) ⌝ }
+{
+    if !gib.one {
+        return mixed_step(f, words, q, root, gib, b, free, next, left);
+    }
+    let went = put_entry(f, words, root, b, gib.p * 0x1000_0000_0000, left);
+    let rest = went.left;
+    Step {
+        all: went.all,
+        left: rest,
+        next: next,
     }
 }

@@ -5,9 +5,12 @@ use crate::put::put;
 use crate::put::put_changed;
 use forms::Place;
 use forms::Request;
+use forms::range::first_entry;
 use forms::range::lies;
+use forms::range::past_entry;
 use forms::words::after_word;
 use forms::words::page_at;
+use forms::words::word_near;
 use table::Entry;
 use table::Frame;
 use table::PageNumber;
@@ -17,7 +20,7 @@ ghost use mathlib.Core.List.{[], _∷_};
 ghost use Prim.Native.Nat.{_<_, _^_};
 ghost use Rattle.edit.specs.Kinds.{Plain};
 ghost use Rattle.edit.specs.Run.{out, run};
-ghost use Rattle.forms.specs.Kinds.{requestOf, Fair};
+ghost use Rattle.forms.specs.Kinds.{requestOf, Fair, Below, Past};
 ghost use Rattle.model.specs.Forms.{l1Word};
 ghost use Rattle.model.specs.Frame.{lent};
 ghost use Rattle.model.specs.Stores.{storeAt, ifChanged, sameTable, newTable, linkTable};
@@ -45,7 +48,7 @@ pub fn same_entry(
     put_changed(words, left, at, word)
 }
 
-// Those L1 entries of block b that change, in order, in the block's own page t.
+// Those L1 entries of block b that change, in order, in the block's own page t. Entries that lie outside the range stay: they are not read.
 pub fn same_table(
     f: Frame,
     words: &mut [u64],
@@ -58,8 +61,10 @@ pub fn same_table(
     ensures { λ r. ⌜ out (r .all) (r .left) (now (words .exit))
         ≡ run left (sameTable (frameOf f (now (words .entry))) (now (words .entry)) (requestOf q) (entry.table (t .0)) b (t .0)) (now (words .entry)) ⌝ }
 {
+    let from = first_entry(q, b);
+    let to = past_entry(q, b);
     let mut more = left;
-    for i in 0..512u64 {
+    for i in from..to {
         let went = same_entry(f, words, q, t, b, i, more);
         if !went.all {
             return went;
@@ -96,7 +101,7 @@ pub fn own_table(
     }
 }
 
-// L1 entry i of block b, in the new page.
+// L1 entry i of block b, in the new page; the range can meet the entries from .. to alone.
 pub fn new_entry(
     f: Frame,
     words: &mut [u64],
@@ -105,15 +110,18 @@ pub fn new_entry(
     b: u64,
     new: PageNumber,
     i: u64,
+    from: u64,
+    to: u64,
     left: Budget,
 ) -> Went
-    requires { ⌜ (b < 512) × (i < 512) × Fair q × Good (frameOf f (now words)) (now words) (entryOf e) × (lent (frameOf f (now words)) (new .0) ≡ true) ⌝ }
+    requires { ⌜ (b < 512) × (i < 512) × Fair q × Good (frameOf f (now words)) (now words) (entryOf e) × (lent (frameOf f (now words)) (new .0) ≡ true)
+        × Below (requestOf q) b from × Past (requestOf q) b to ⌝ }
     ensures { λ r. ⌜ out (r .all) (r .left) (now (words .exit))
         ≡ run left (storeAt (frameOf f (now (words .entry))) (new .0) i
         (l1Word (frameOf f (now (words .entry))) (now (words .entry)) (requestOf q) (entryOf e) b i) ∷ []) (now (words .entry)) ⌝ }
 {
     let at = page_at(f, words, new) + i as usize;
-    let word = after_word(f, words, q, e, b, i);
+    let word = word_near(f, words, q, e, b, i, from, to);
     put(words, left, at, word)
 }
 
@@ -131,9 +139,11 @@ pub fn new_table(
     ensures { λ r. ⌜ out (r .all) (r .left) (now (words .exit))
         ≡ run left (newTable (frameOf f (now (words .entry))) (now (words .entry)) (requestOf q) (entryOf e) b (new .0)) (now (words .entry)) ⌝ }
 {
+    let from = first_entry(q, b);
+    let to = past_entry(q, b);
     let mut more = left;
     for i in 0..512u64 {
-        let went = new_entry(f, words, q, e, b, new, i, more);
+        let went = new_entry(f, words, q, e, b, new, i, from, to, more);
         if !went.all {
             return went;
         }

@@ -16,6 +16,7 @@ use Rattle.forms.specs.declared.Request.{Request}
 use Rattle.forms.specs.declared.Form.{Form}
 use Rattle.forms.specs.declared.Form.the-variants.{Flat, Pieces, Table}
 use Rattle.forms.specs.declared.Gib.{Gib}
+use Rattle.forms.specs.declared.Piece.{Piece}
 use Rattle.forms.specs.declared.Place.{Place}
 use Rattle.forms.specs.declared.Place.the-variants.{Inside, Outside, Across}
 
@@ -38,6 +39,13 @@ Lies q s n Inside = (k : ℕ) → s ≤ k → k < s + n → model.inRange q k �
 Lies q s n Outside = (k : ℕ) → s ≤ k → k < s + n → model.inRange q k ≡ false
 Lies q s n Across = Unit {0}
 
+-- no page of block b lies in the range below its L1 entry n; and none from that entry on
+abbrev pub Below : model.Request → ℕ → ℕ → Type 0
+Below q b n = (k : ℕ) → k < b * 8192 + n * 16 → b * 8192 ≤ k → model.inRange q k ≡ false
+
+abbrev pub Past : model.Request → ℕ → ℕ → Type 0
+Past q b n = (k : ℕ) → b * 8192 + n * 16 ≤ k → k < b * 8192 + 8192 → model.inRange q k ≡ false
+
 -- an L1 entry whose fields are all p
 abbrev pub spreadOf : ℕ → ℕ
 spreadOf p = p * 0x1111_1111_1111_1111
@@ -52,6 +60,11 @@ oldWord F m entry.invalid i = 0
 -- the permission of page k, once the edit is whole, by an L1 entry as it stands, whose first page is s
 abbrev pub mixedAt : model.Request → ℕ → ℕ → ℕ → ℕ
 mixedAt q old s k = if model.inRange q k then q .permission else digit 16 old (k - s)
+
+-- what piece says is so of piece i of block b, whose entry is e
+abbrev pub PieceIs : frame.Frame → List ℕ → model.Request → entry.Entry → ℕ → ℕ → Piece → Type 0
+PieceIs F m q e b i piece =
+    (piece .p ≡ model.afterIn F m q e (b * 8192 + i * 512)) × (piece .one ≡ model.allAre F m q e (piece .p) 512 (b * 8192 + i * 512)) × (piece .p < 4)
 
 -- what gib says is so of GiB g
 abbrev pub GibIs : frame.Frame → List ℕ → model.Request → ℕ → ℕ → Gib → Type 0

@@ -2,8 +2,7 @@
 use crate::Form;
 use crate::Place;
 use crate::Request;
-use crate::pieces::piece_first;
-use crate::pieces::piece_is;
+use crate::pieces::piece_at;
 use crate::range::lies;
 use crate::words::page_at;
 use table::Entry;
@@ -12,9 +11,9 @@ use table::PageNumber;
 use table::word::decode;
 ghost use mathlib.Core.Path.{_≡_};
 ghost use mathlib.Core.Bool.{true, false};
-ghost use Prim.Native.Nat.{_*_, _<_};
+ghost use Prim.Native.Nat.{_+_, _*_, _<_};
 ghost use Rattle.forms.specs.Kinds.{requestOf, formOf, Fair, Lies};
-ghost use Rattle.model.specs.Forms.{formIn};
+ghost use Rattle.model.specs.Forms.{formIn, afterIn, allAre};
 ghost use Rattle.model.specs.Frame.{lent};
 ghost use Rattle.model.specs.Stores.{needsPage};
 ghost use Rattle.model.specs.Walk.{entryAt};
@@ -28,13 +27,37 @@ pub fn pieces_form(f: Frame, words: &[u64], q: Request, e: Entry, b: u64) -> For
 {
     let mut info: u64 = 0;
     for j in 0..16u64 {
-        let p = piece_first(f, words, q, e, b, 15 - j);
-        if !piece_is(f, words, q, e, b, 15 - j, p) {
+        let piece = piece_at(f, words, q, e, b, 15 - j);
+        if !piece.one {
             return Form::Table;
         }
-        info = p + 4 * info;
+        info = piece.p + 4 * info;
     }
     Form::Pieces(info)
+}
+
+// Piece i of block b is of one permission, once the edit is whole.
+pub fn piece_is_one(f: Frame, words: &[u64], q: Request, e: Entry, b: u64, i: u64) -> bool
+    requires { ⌜ (b < 512) × (i < 16) × Fair q × Good (frameOf f (now words)) (now words) (entryOf e) ⌝ }
+    ensures { λ r. ⌜ r ≡ allAre (frameOf f (now (words .entry))) (now (words .entry)) (requestOf q) (entryOf e)
+        (afterIn (frameOf f (now (words .entry))) (now (words .entry)) (requestOf q) (entryOf e) (b * 8192 + i * 512)) 512 (b * 8192 + i * 512) ⌝ }
+{
+    let piece = piece_at(f, words, q, e, b, i);
+    piece.one
+}
+
+// The same for a block across an end of the range. The pieces at the ends of the range come first: if one is mixed, the others are not read.
+pub fn across_form(f: Frame, words: &[u64], q: Request, e: Entry, b: u64) -> Form
+    requires { ⌜ (b < 512) × Fair q × Good (frameOf f (now words)) (now words) (entryOf e) ⌝ }
+    ensures { λ r. ⌜ formOf r ≡ formIn (frameOf f (now (words .entry))) (now (words .entry)) (requestOf q) false 0 (entryOf e) b ⌝ }
+{
+    if !piece_is_one(f, words, q, e, b, q.start.0 / 0x20_0000 % 16) {
+        return Form::Table;
+    }
+    if !piece_is_one(f, words, q, e, b, (q.start.0 + q.size) / 0x20_0000 % 16) {
+        return Form::Table;
+    }
+    pieces_form(f, words, q, e, b)
 }
 
 // The same for a block outside the range.
@@ -67,7 +90,7 @@ pub fn block_form(f: Frame, words: &[u64], q: Request, one: bool, p: u64, e: Ent
     match lies(q, b * 8192, 8192) {
         Place::Inside => Form::Pieces(q.permission * 0x5555_5555),
         Place::Outside => outside_form(f, words, q, e, b),
-        Place::Across => pieces_form(f, words, q, e, b),
+        Place::Across => across_form(f, words, q, e, b),
     }
 }
 

@@ -1,4 +1,5 @@
 // The GiBs that a range touches, and the new pages that the whole edit takes.
+use crate::Form;
 use crate::Gib;
 use crate::Place;
 use crate::Request;
@@ -11,9 +12,10 @@ use crate::range::lies;
 use table::Frame;
 use table::PageNumber;
 ghost use mathlib.Core.Path.{_≡_};
+ghost use mathlib.Core.Bool.{false};
 ghost use Prim.Native.Nat.{_+_, _*_, _/_, _%_, _≤_, _<_};
-ghost use Rattle.forms.specs.Kinds.{requestOf, Fair, GibIs, formAt, Ranged, wholePages};
-ghost use Rattle.model.specs.Forms.{gibFirst, gibIsOne};
+ghost use Rattle.forms.specs.Kinds.{requestOf, Fair, GibIs, Ranged, wholePages};
+ghost use Rattle.model.specs.Forms.{formIn, gibFirst, gibIsOne};
 ghost use Rattle.model.specs.Frame.{blocks};
 ghost use Rattle.model.specs.Numbers.{if_then_else_};
 ghost use Rattle.model.specs.Stores.{needsPage};
@@ -74,33 +76,33 @@ pub fn gib_at(f: Frame, words: &[u64], q: Request, root: PageNumber, b: u64, gib
     gib
 }
 
-// 1 for a block that takes a new page, 0 for any other.
-pub fn new_page(f: Frame, words: &[u64], q: Request, root: PageNumber, gib: Gib, b: u64) -> u64
+// 1 for a block that takes a new page, 0 for any other. The GiB need not be known: no block of a GiB of one permission has mixed pieces.
+pub fn new_page(f: Frame, words: &[u64], q: Request, root: PageNumber, b: u64) -> u64
     requires { ⌜ Rooted (frameOf f (now words)) (now words) (root .0) × (b < blocks (frameOf f (now words))) × Fair q ⌝ }
-    ensures { λ r. ⌜ r ≡ (if needsPage (formAt (frameOf f (now (words .entry))) (now (words .entry)) (requestOf q) (root .0) gib b)
+    ensures { λ r. ⌜ r ≡ (if needsPage (formIn (frameOf f (now (words .entry))) (now (words .entry)) (requestOf q) false 0
+        (entryAt (frameOf f (now (words .entry))) (now (words .entry)) (root .0) b) b)
         (entryAt (frameOf f (now (words .entry))) (now (words .entry)) (root .0) b) then 1 else 0) ⌝ }
 {
     let e = entry_at(f, words, root, b);
-    let form = block_form(f, words, q, gib.one, gib.p, e, b);
-    if needs_page(form, e) {
+    if !needs_page(Form::Table, e) {
+        return 0;
+    }
+    if needs_page(block_form(f, words, q, false, 0, e, b), e) {
         return 1;
     }
     0
 }
 
-// How many new pages the whole edit takes.
+// How many new pages the whole edit takes: only the blocks at the two ends of the range can take one.
 pub fn new_pages(f: Frame, words: &[u64], q: Request, root: PageNumber) -> u64
     requires { ⌜ Ranged (frameOf f (now words)) (now words) (requestOf q) (root .0) ⌝ }
     ensures { λ r. ⌜ r ≡ wholePages (frameOf f (now (words .entry))) (now (words .entry)) (requestOf q) (root .0) ⌝ }
 {
-    let end = ((q.start.0 + q.size - 1) / 0x4000_0000 + 1) * 32;
-    let mut b = q.start.0 / 0x4000_0000 * 32;
-    let mut gib = Gib { one: false, p: 0 };
-    let mut count: u64 = 0;
-    while b < end {
-        gib = gib_at(f, words, q, root, b, gib);
-        count += new_page(f, words, q, root, gib, b);
-        b += 1;
+    let low = q.start.0 / 0x200_0000;
+    let high = (q.start.0 + q.size - 1) / 0x200_0000;
+    let at_low = new_page(f, words, q, root, low);
+    if low == high {
+        return at_low;
     }
-    count
+    at_low + new_page(f, words, q, root, high)
 }

@@ -29,6 +29,12 @@ pub enum Place {
     Across,
 }
 
+// Whether a piece is of one permission once the edit is whole, and the permission of its first page.
+pub struct Piece {
+    pub one: bool,
+    pub p: u64,
+}
+
 // Whether a GiB is of one permission once the edit is whole, and the permission of its first page.
 pub struct Gib {
     pub one: bool,

@@ -1,8 +1,10 @@
 // Pieces of a block, and whole blocks: are they of one permission once the edit is whole?
+use crate::Piece;
 use crate::Place;
 use crate::Request;
 use crate::range::lies;
 use crate::words::after_word;
+use crate::words::old_word;
 use crate::words::page_at;
 use crate::words::spread;
 use table::Entry;
@@ -12,7 +14,7 @@ ghost use mathlib.Core.Path.{_≡_};
 ghost use Prim.Native.Nat.{_+_, _*_, _≤_, _<_};
 ghost use lib.Dec.{eqb};
 ghost use lib.ListN.{length, getD};
-ghost use Rattle.forms.specs.Kinds.{requestOf, Fair, Lies};
+ghost use Rattle.forms.specs.Kinds.{requestOf, Fair, Lies, PieceIs};
 ghost use Rattle.model.specs.Forms.{allAre, afterIn};
 ghost use Rattle.model.specs.Numbers.{every};
 ghost use Rattle.table.specs.Views.{frameOf, entryOf};
@@ -92,4 +94,47 @@ pub fn piece_first(f: Frame, words: &[u64], q: Request, e: Entry, b: u64, i: u64
     ensures { λ r. ⌜ (r ≡ afterIn (frameOf f (now (words .entry))) (now (words .entry)) (requestOf q) (entryOf e) (b * 8192 + i * 512)) × (r < 4) ⌝ }
 {
     after_word(f, words, q, e, b, i * 32) % 16
+}
+
+// The same for a piece outside the range.
+pub fn old_first(f: Frame, words: &[u64], q: Request, e: Entry, b: u64, i: u64) -> u64
+    requires { ⌜ (b < 512) × (i < 16) × Fair q × Good (frameOf f (now words)) (now words) (entryOf e) × Lies (requestOf q) (b * 8192 + i * 512) 512 Place.Outside ⌝ }
+    ensures { λ r. ⌜ (r ≡ afterIn (frameOf f (now (words .entry))) (now (words .entry)) (requestOf q) (entryOf e) (b * 8192 + i * 512)) × (r < 4) ⌝ }
+{
+    old_word(f, words, e, i * 32) % 16
+}
+
+// A piece outside the range: its permission, and whether it is all the piece's.
+pub fn old_piece(f: Frame, words: &[u64], q: Request, e: Entry, b: u64, i: u64) -> Piece
+    requires { ⌜ (b < 512) × (i < 16) × Fair q × Good (frameOf f (now words)) (now words) (entryOf e) × Lies (requestOf q) (b * 8192 + i * 512) 512 Place.Outside ⌝ }
+    ensures { λ r. ⌜ PieceIs (frameOf f (now (words .entry))) (now (words .entry)) (requestOf q) (entryOf e) b i r ⌝ }
+{
+    let p = old_first(f, words, q, e, b, i);
+    let one = old_piece_is(f, words, q, e, b, i, p);
+    Piece { one: one, p: p }
+}
+
+// A piece across an end of the range.
+pub fn cut_piece(f: Frame, words: &[u64], q: Request, e: Entry, b: u64, i: u64) -> Piece
+    requires { ⌜ (b < 512) × (i < 16) × Fair q × Good (frameOf f (now words)) (now words) (entryOf e) ⌝ }
+    ensures { λ r. ⌜ PieceIs (frameOf f (now (words .entry))) (now (words .entry)) (requestOf q) (entryOf e) b i r ⌝ }
+{
+    let p = piece_first(f, words, q, e, b, i);
+    let one = piece_is(f, words, q, e, b, i, p);
+    Piece { one: one, p: p }
+}
+
+// Piece i of block b, once the edit is whole: where it lies is asked once.
+pub fn piece_at(f: Frame, words: &[u64], q: Request, e: Entry, b: u64, i: u64) -> Piece
+    requires { ⌜ (b < 512) × (i < 16) × Fair q × Good (frameOf f (now words)) (now words) (entryOf e) ⌝ }
+    ensures { λ r. ⌜ PieceIs (frameOf f (now (words .entry))) (now (words .entry)) (requestOf q) (entryOf e) b i r ⌝ }
+{
+    match lies(q, b * 8192 + i * 512, 512) {
+        Place::Inside => Piece {
+            one: true,
+            p: q.permission,
+        },
+        Place::Outside => old_piece(f, words, q, e, b, i),
+        Place::Across => cut_piece(f, words, q, e, b, i),
+    }
 }

@@ -3,7 +3,7 @@ use crate::Place;
 use crate::Request;
 ghost use mathlib.Core.Path.{_≡_};
 ghost use Prim.Native.Nat.{_+_, _≤_, _<_, _^_};
-ghost use Rattle.forms.specs.Kinds.{requestOf, Fair, Lies};
+ghost use Rattle.forms.specs.Kinds.{requestOf, Fair, Lies, Below, Past};
 ghost use Rattle.model.specs.Forms.{inRange};
 
 // Where the n pages from page s lie.
@@ -39,4 +39,36 @@ pub fn in_range(q: Request, n: u64) -> bool
         return false;
     }
     at < q.start.0 + q.size
+}
+
+// The first L1 entry of block b that the range can meet: no page of an entry below it lies in the range.
+pub fn first_entry(q: Request, b: u64) -> u64
+    requires { ⌜ (b < 512) × Fair q ⌝ }
+    ensures { λ r. ⌜ (r ≤ 512) × Below (requestOf q) b r ⌝ }
+{
+    let low = q.start.0 / 65536;
+    let base = b * 512;
+    if low <= base {
+        return 0;
+    }
+    if base + 512 <= low {
+        return 512;
+    }
+    low - base
+}
+
+// The L1 entry of block b from which on no page lies in the range.
+pub fn past_entry(q: Request, b: u64) -> u64
+    requires { ⌜ (b < 512) × Fair q ⌝ }
+    ensures { λ r. ⌜ (r ≤ 512) × Past (requestOf q) b r ⌝ }
+{
+    let high = (q.start.0 + q.size + 65535) / 65536;
+    let base = b * 512;
+    if high <= base {
+        return 0;
+    }
+    if base + 512 <= high {
+        return 512;
+    }
+    high - base
 }

@@ -3,6 +3,7 @@ use mathlib.Core.List.{List}
 use mathlib.Core.Bool.{Bool, true, false}
 use Prim.Native.Nat.{ℕ, _+_, _-_, _≤_, _<_}
 use native.Mathlib.Omega.{arith}
+use borrow.Author.Needs.{needs}
 use borrow.Author.Tests.{not-true, not-false}
 use lib.ListN.{length}
 use Rattle.model.specs.Frame.{Frame, lent}
@@ -16,10 +17,16 @@ use Rattle.edit.proofs.pages.new_table.Statement.{statement}
 use Rattle.edit.proofs.pages.new_table.Tie as tie
 
 abbrev Inv-loop : tie.InvT-loop
-Inv-loop f words₀ q e b new more₀ i₀ words more i = New f (requestOf q) (entryOf e) b (new .0) words₀ more₀ words more i
+Inv-loop f words₀ q e b new from to more₀ i₀ words more i = New f (requestOf q) (entryOf e) b (new .0) words₀ more₀ words more i
 
 abbrev μ-loop : tie.MeasureT-loop
-μ-loop f words₀ q e b new more₀ i₀ words more i = 512 - i
+μ-loop f words₀ q e b new from to more₀ i₀ words more i = 512 - i
+
+first-entry-requires : tie.Need-first-entry-requires Inv-loop μ-loop
+first-entry-requires c κs = search needs
+
+past-entry-requires : tie.Need-past-entry-requires Inv-loop μ-loop
+past-entry-requires c κs = search needs
 
 loop-holds : tie.Need-loop-holds Inv-loop μ-loop
 loop-holds c = new-start _ _ _ _ _ _ _
@@ -27,7 +34,7 @@ loop-holds c = new-start _ _ _ _ _ _ _
 new-entry-requires : tie.Need-new-entry-requires Inv-loop μ-loop
 new-entry-requires c κs =
     let l = c .before .before in
-    let s = l .before .before in
+    let s = l .before .before .before .before in
     let same = sym (frame-same (s .args .f) (l .loop .words) (s .args .words .now) (l .loop .inv .size)) in (
       s .pre .0,
       omega arith,
@@ -35,6 +42,8 @@ new-entry-requires c κs =
       subst (λ (X : Frame). Good X (l .loop .words) (entryOf (s .args .e))) same
           (good-plain (frameOf (s .args .f) (s .args .words .now)) (s .args .words .now) (l .loop .words) (entryOf (s .args .e)) (s .pre .4) (s .pre .2)),
       subst (λ (X : Frame). lent X (s .args .new .0) ≡ true) same (s .pre .3),
+      l .before .before .first-entry .ensures .1,
+      l .before .past-entry .ensures .1,
     )
 
 same-length : tie.Need-same-length Inv-loop μ-loop
@@ -44,7 +53,7 @@ returns : tie.Need-returns Inv-loop μ-loop
 returns c =
     let r = c .before .before .before .before .new-entry in
     let l = c .before .before .before .before .before .before .before in
-    let s = l .before .before in
+    let s = l .before .before .before .before in
     new-cut _ _ _ _ _ _ _ (s .pre .1 .small) (s .pre .4) (s .pre .3) (l .loop .words) (l .loop .more) (l .loop .i) (l .loop .inv) (c .before .before .before .before .before .before .loop-test .taken) _ (r .ensures)
     (out-cut (r .result .all) (r .result .left) (r .last .1 .0) (not-true (r .result .all) (c .if1 .taken)))
 
@@ -58,7 +67,7 @@ loop-again : tie.Need-loop-again Inv-loop μ-loop
 loop-again c =
     let r = c .before .before .before .before .before .new-entry in
     let l = c .before .before .before .before .before .before .before .before in
-    let s = l .before .before in
+    let s = l .before .before .before .before in
     new-next _ _ _ _ _ _ _ (s .pre .1 .small) (s .pre .4) (s .pre .3) (l .loop .words) (l .loop .more) (l .loop .i) (l .loop .inv) (c .before .before .before .before .before .before .before .loop-test .taken) _ (r .ensures)
     (out-whole (r .result .all) (r .result .left) (r .last .1 .0) (not-false (r .result .all) (c .before .if1 .left)))
 
@@ -74,6 +83,8 @@ new-table-spec =
     (tie.spec
     Inv-loop
     μ-loop
+    first-entry-requires
+    past-entry-requires
     loop-holds
     new-entry-requires
     same-length

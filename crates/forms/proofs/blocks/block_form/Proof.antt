@@ -37,8 +37,8 @@ outside-form-requires c κs =
 enum-told-3 : tie.Need-enum-told-3
 enum-told-3 c = search needs
 
-pieces-form-requires : tie.Need-pieces-form-requires
-pieces-form-requires c κs = search needs
+across-form-requires : tie.Need-across-form-requires
+across-form-requires c κs = search needs
 
 returns-2 : tie.Need-returns-2
 returns-2 c =
@@ -57,7 +57,7 @@ returns-3 c =
 returns-4 : tie.Need-returns-4
 returns-4 c =
     let a = c .before .before .before .before .before .before .args in
-    c .pieces-form .ensures
+    c .across-form .ensures
     ∙ rw (c .before .before .before .before .if1 .left) (form-not (a .f .paw) (a .f .first .0) (length (a .words .now) / 512) (a .words .now) (requestOf (a .q)) (entryOf (a .e)) (a .b) (a .p))
 
 pub block-form-spec : {M : Type 1} → statement M
@@ -72,7 +72,7 @@ block-form-spec =
     enum-told-2
     outside-form-requires
     enum-told-3
-    pieces-form-requires
+    across-form-requires
     returns-2
     returns-3
     returns-4)

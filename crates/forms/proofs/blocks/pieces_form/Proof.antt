@@ -24,22 +24,22 @@ abbrev μ-loop : tie.MeasureT-loop
 μ-loop f words q e b info₀ j₀ info j = 16 - j
 
 -- whether the turn's piece is of one permission
-turn-one : (c : tie.After-piece-is Inv-loop μ-loop) → let l = c .before .before .before in let a = l .before .before .args in
-    c .piece-is .result ≡ isOne (frameOf (a .f) (a .words .now)) (a .words .now) (requestOf (a .q)) (entryOf (a .e)) (a .b) (15 - l .loop .j)
+turn-one : (c : tie.After-piece-at Inv-loop μ-loop) → let l = c .before .before in let a = l .before .before .args in
+    c .piece-at .result .one ≡ isOne (frameOf (a .f) (a .words .now)) (a .words .now) (requestOf (a .q)) (entryOf (a .e)) (a .b) (15 - l .loop .j)
 turn-one c =
-    let l = c .before .before .before in
+    let l = c .before .before in
     let a = l .before .before .args in
-    c .piece-is .ensures
-    ∙ ap (λ (p : ℕ). allAre (frameOf (a .f) (a .words .now)) (a .words .now) (requestOf (a .q)) (entryOf (a .e)) p 512 (a .b * 8192 + (15 - l .loop .j) * 512)) (c .before .piece-first .ensures .0)
+    c .piece-at .ensures .1
+    ∙ ap (λ (p : ℕ). allAre (frameOf (a .f) (a .words .now)) (a .words .now) (requestOf (a .q)) (entryOf (a .e)) p 512 (a .b * 8192 + (15 - l .loop .j) * 512)) (c .piece-at .ensures .0)
 
 turn-info : (c : tie.Else1 Inv-loop μ-loop) → let l = c .before .before .before .before in let a = l .before .before .args in
-    c .before .before .piece-first .result + 4 * l .loop .info ≡ pack 4 (firstOf (frameOf (a .f) (a .words .now)) (a .words .now) (requestOf (a .q)) (entryOf (a .e)) (a .b)) (l .loop .j + 1) (16 - (l .loop .j + 1))
+    c .before .before .piece-at .result .p + 4 * l .loop .info ≡ pack 4 (firstOf (frameOf (a .f) (a .words .now)) (a .words .now) (requestOf (a .q)) (entryOf (a .e)) (a .b)) (l .loop .j + 1) (16 - (l .loop .j + 1))
 turn-info c =
     let l = c .before .before .before .before in
     let a = l .before .before .args in
-    horner 4 (firstOf (frameOf (a .f) (a .words .now)) (a .words .now) (requestOf (a .q)) (entryOf (a .e)) (a .b)) 16 0 (l .loop .j) (l .loop .info) (c .before .before .piece-first .result) (omega arith) (l .loop .inv .1) (c .before .before .piece-first .ensures .0 ∙ ap (firstOf (frameOf (a .f) (a .words .now)) (a .words .now) (requestOf (a .q)) (entryOf (a .e)) (a .b)) (sym (zero-add (15 - l .loop .j))))
+    horner 4 (firstOf (frameOf (a .f) (a .words .now)) (a .words .now) (requestOf (a .q)) (entryOf (a .e)) (a .b)) 16 0 (l .loop .j) (l .loop .info) (c .before .before .piece-at .result .p) (omega arith) (l .loop .inv .1) (c .before .before .piece-at .ensures .0 ∙ ap (firstOf (frameOf (a .f) (a .words .now)) (a .words .now) (requestOf (a .q)) (entryOf (a .e)) (a .b)) (sym (zero-add (15 - l .loop .j))))
 
-turn-fits : (c : tie.Else1 Inv-loop μ-loop) → c .before .before .piece-first .result + 4 * c .before .before .before .before .loop .info < 2 ^ 32
+turn-fits : (c : tie.Else1 Inv-loop μ-loop) → c .before .before .piece-at .result .p + 4 * c .before .before .before .before .loop .info < 2 ^ 32
 turn-fits c =
     let l = c .before .before .before .before in
     let a = l .before .before .args in
@@ -53,17 +53,11 @@ loop-holds : tie.Need-loop-holds Inv-loop μ-loop
 unfolding pack every
 loop-holds c = (omega arith, refl, refl)
 
-sub-piece-first : tie.Need-sub-piece-first Inv-loop μ-loop
-sub-piece-first c = omega arith
+sub-piece-at : tie.Need-sub-piece-at Inv-loop μ-loop
+sub-piece-at c = omega arith
 
-piece-first-requires : tie.Need-piece-first-requires Inv-loop μ-loop
-piece-first-requires c κs = search needs
-
-sub-piece-is : tie.Need-sub-piece-is Inv-loop μ-loop
-sub-piece-is c = omega arith
-
-piece-is-requires : tie.Need-piece-is-requires Inv-loop μ-loop
-piece-is-requires c κs = search needs
+piece-at-requires : tie.Need-piece-at-requires Inv-loop μ-loop
+piece-at-requires c κs = search needs
 
 returns : tie.Need-returns Inv-loop μ-loop
 returns c =
@@ -71,13 +65,13 @@ returns c =
     let a = l .before .before .args in
     form-table (a .f .paw) (a .f .first .0) (length (a .words .now) / 512) (a .words .now) (requestOf (a .q)) (entryOf (a .e)) (a .b)
     (every-fail (isOne (frameOf (a .f) (a .words .now)) (a .words .now) (requestOf (a .q)) (entryOf (a .e)) (a .b)) 16 (15 - l .loop .j) (omega arith)
-    (sym (turn-one (c .before)) ∙ not-true _ (c .if1 .taken)))
+    (sym (turn-one (c .before .before)) ∙ not-true _ (c .if1 .taken)))
 
 mul-info : tie.Need-mul-info Inv-loop μ-loop
 mul-info c = record { fits = omega (arith, turn-fits c) }
 
 add-info : tie.Need-add-info Inv-loop μ-loop
-add-info c = record { fits = omega (arith, turn-fits c) }
+add-info c = record { fits = omega (arith, turn-fits (c .before)) }
 
 add-j : tie.Need-add-j Inv-loop μ-loop
 add-j c = omega arith
@@ -87,12 +81,12 @@ loop-less c = omega arith
 
 loop-again : tie.Need-loop-again Inv-loop μ-loop
 loop-again c =
-    let l = c .before .before .before .before in
+    let l = c .before .before .before .before .before in
     let a = l .before .before .args in (
       omega arith,
-      turn-info c,
+      turn-info (c .before),
       every-down (isOne (frameOf (a .f) (a .words .now)) (a .words .now) (requestOf (a .q)) (entryOf (a .e)) (a .b)) 16 (l .loop .j) (omega arith) (l .loop .inv .2)
-          (sym (turn-one (c .before)) ∙ not-false _ (c .if1 .left)),
+          (sym (turn-one (c .before .before .before)) ∙ not-false _ (c .before .if1 .left)),
     )
 
 returns-2 : tie.Need-returns-2 Inv-loop μ-loop
@@ -113,10 +107,8 @@ pieces-form-spec =
     Inv-loop
     μ-loop
     loop-holds
-    sub-piece-first
-    piece-first-requires
-    sub-piece-is
-    piece-is-requires
+    sub-piece-at
+    piece-at-requires
     returns
     mul-info
     add-info

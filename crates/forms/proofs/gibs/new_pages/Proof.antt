@@ -1,110 +1,56 @@
 use mathlib.Core.Path.{_≡_, refl, sym, ap, ap₂, _∙_, subst}
-use mathlib.Core.List.{List}
-use Prim.Native.Nat.{ℕ, _+_, _-_, _*_, _/_, _≤_, _<_}
+use Prim.Native.Nat.{ℕ, _+_, _-_, _/_, _<_}
 use native.Mathlib.Omega.{arith}
-use Rattle.forms.proofs.CountLaws.{Counting, ends, some, count-start, count-room, count-next, count-fits, count-end}
+use Rattle.forms.proofs.CountLaws.{ends, some, low-inside, high-inside, count-one, count-two, one-at-most}
 use Rattle.forms.specs.Kinds.{requestOf, Fair}
-use Rattle.table.specs.Views.{frameOf}
 use Rattle.forms.proofs.gibs.new_pages.Statement.{statement}
 use Rattle.forms.proofs.gibs.new_pages.Tie as tie
+use Rattle.forms.proofs.gibs.new_pages.Reads as reads
+use Rattle.forms.proofs.gibs.new_pages.Lts as lts
+use Rattle.forms.proofs.gibs.new_page.Reads as new-page-reads
 
-abbrev Inv-loop : tie.InvT-loop
-Inv-loop f words q root end b₀ gib₀ count₀ b gib count = Counting f words (requestOf q) (root .0) end b gib count
-
-abbrev μ-loop : tie.MeasureT-loop
-μ-loop f words q root end b₀ gib₀ count₀ b gib count = end - b
-
-fair : (s : tie.Start Inv-loop μ-loop) → Fair (s .args .q)
+fair : (s : tie.Start) → Fair (s .args .q)
 fair s = record { small = s .pre .small; ends = ends (s .args .f) (s .args .words .now) (requestOf (s .args .q)) (s .args .root .0) (s .pre) }
 
-some-size : (s : tie.Start Inv-loop μ-loop) → 0 < s .args .q .size
+some-size : (s : tie.Start) → 0 < s .args .q .size
 some-size s = some (s .args .f) (s .args .words .now) (requestOf (s .args .q)) (s .args .root .0) (s .pre)
 
-add-end : tie.Need-add-end Inv-loop μ-loop
-add-end c = let s = c .before .before in record { fits = omega (arith, fair s .ends) }
+-- src/gibs.rt:102:17
+add-high : tie.Need-add-high
+add-high c = let s = c .before .before .before in record { fits = omega (arith, fair s .ends) }
 
-sub-end : tie.Need-sub-end Inv-loop μ-loop
-sub-end c = let s = c .before .before in omega (arith, some-size s)
+-- src/gibs.rt:102:17
+sub-high : tie.Need-sub-high
+sub-high c = let s = c .before .before .before in omega (arith, some-size s)
 
-add-end-2 : tie.Need-add-end-2 Inv-loop μ-loop
-add-end-2 c = let s = c .before .before in record { fits = omega (arith, fair s .ends) }
+-- src/gibs.rt:103:9
+new-page-requires : tie.Need-new-page-requires
+new-page-requires c κs = let s = c .before .before .before in (s .pre .rooted, low-inside (s .args .f) (s .args .words .now) (requestOf (s .args .q)) (s .args .root .0) (s .pre), fair s)
 
-mul-end : tie.Need-mul-end Inv-loop μ-loop
-mul-end c = let s = c .before .before in record { fits = omega (arith, fair s .ends) }
+-- src/gibs.rt:105:9
+returns : tie.Need-returns
+returns c = let s = c .before .before .before .before .before in
+    c .before .new-page .ensures ∙ count-one (s .args .f) (s .args .words .now) (requestOf (s .args .q)) (s .args .root .0) (s .pre) (c .if1 .taken)
 
-mul-b : tie.Need-mul-b Inv-loop μ-loop
-mul-b c = let s = c .before .before .before in record { fits = omega (arith, fair s .ends) }
+-- src/gibs.rt:107:14
+new-page-requires-2 : tie.Need-new-page-requires-2
+new-page-requires-2 c κs = let s = c .before .before .before .before .before in (s .pre .rooted, high-inside (s .args .f) (s .args .words .now) (requestOf (s .args .q)) (s .args .root .0) (s .pre), fair s)
 
-loop-holds : tie.Need-loop-holds Inv-loop μ-loop
-loop-holds c =
-    let s = c .before .before .before in
-    count-start (s .args .f) (s .args .words .now) (requestOf (s .args .q)) (s .args .root .0) (s .pre) _ _ _ refl refl
+-- src/gibs.rt:107:5
+add-result : tie.Need-add-result
+add-result c =
+    let s = c .before .before .before .before .before .before in
+    let low = one-at-most (s .args .f) (s .args .words .now) (requestOf (s .args .q)) (s .args .root .0) (s .pre) (s .args .q .start .0 / 0x200_0000) _ (c .before .before .new-page .ensures) in
+    let high = one-at-most (s .args .f) (s .args .words .now) (requestOf (s .args .q)) (s .args .root .0) (s .pre) ((s .args .q .start .0 + s .args .q .size - 1) / 0x200_0000) _ (c .new-page2 .ensures) in
+    record { fits = omega (arith, low, high) }
 
-gib-at-requires : tie.Need-gib-at-requires Inv-loop μ-loop
-gib-at-requires c κs =
-    let l = c .before in
-    let s = l .before .before .before .before in (
-      s .pre .rooted,
-      count-room (s .args .f) (s .args .words .now) (requestOf (s .args .q)) (s .args .root .0) _ (l .loop .b) (l .loop .gib) (l .loop .count) (l .loop .inv) (c .loop-test .taken),
-      fair s,
-      l .loop .inv .flag,
-    )
-
-new-page-requires : tie.Need-new-page-requires Inv-loop μ-loop
-new-page-requires c κs =
-    let l = c .before .before in
-    let s = l .before .before .before .before in (
-      s .pre .rooted,
-      omega (arith, count-room (s .args .f) (s .args .words .now) (requestOf (s .args .q)) (s .args .root .0) _ (l .loop .b) (l .loop .gib) (l .loop .count) (l .loop .inv) (c .before .loop-test .taken)),
-      fair s,
-    )
-
-add-count : tie.Need-add-count Inv-loop μ-loop
-add-count c =
-    let l = c .before .before .before in
-    let s = l .before .before .before .before in
-    let i = l .loop .inv in
-    let h = count-fits (s .args .f) (s .args .words .now) (requestOf (s .args .q)) (s .args .root .0) _ (l .loop .b) (l .loop .gib) (l .loop .count) i (c .before .before .loop-test .taken) (c .before .gib-at .result) (c .before .gib-at .ensures) (c .new-page .result) (c .new-page .ensures) in
-    record { fits = omega (arith, h, i .inside, s .pre .rooted .few, c .before .before .loop-test .taken) }
-
-add-b : tie.Need-add-b Inv-loop μ-loop
-add-b c =
-    let l = c .before .before .before in
-    let s = l .before .before .before .before in
-    let i = l .loop .inv in
-    record { fits = omega (arith, i .inside, s .pre .rooted .few, c .before .before .loop-test .taken) }
-
-loop-less : tie.Need-loop-less Inv-loop μ-loop
-loop-less c = omega (arith, c .before .before .loop-test .taken)
-
-loop-again : tie.Need-loop-again Inv-loop μ-loop
-loop-again c =
-    let l = c .before .before .before in
-    let s = l .before .before .before .before in
-    count-next (s .args .f) (s .args .words .now) (requestOf (s .args .q)) (s .args .root .0) _ (l .loop .b) (l .loop .gib) (l .loop .count) (l .loop .inv) (c .before .before .loop-test .taken) (c .before .gib-at .result) (c .before .gib-at .ensures) (c .new-page .result) (c .new-page .ensures)
-
-returns : tie.Need-returns Inv-loop μ-loop
-returns c =
-    let l = c .before in
-    let s = l .before .before .before .before in
-    count-end (s .args .f) (s .args .words .now) (requestOf (s .args .q)) (s .args .root .0) _ (l .loop .b) (l .loop .gib) (l .loop .count) (l .loop .inv) (c .loop-test .left)
+-- src/gibs.rt:97:1
+returns-2 : tie.Need-returns-2
+returns-2 c = let s = c .before .before .before .before .before .before in
+    ap₂ (λ (x y : ℕ). x + y) (c .before .before .new-page .ensures) (c .new-page2 .ensures)
+    ∙ count-two (s .args .f) (s .args .words .now) (requestOf (s .args .q)) (s .args .root .0) (s .pre) (c .before .if1 .left)
 
 pub new-pages-spec : {M : Type 1} → statement M
 new-pages-spec =
     tie.close
-    (tie.spec
-    Inv-loop
-    μ-loop
-    add-end
-    sub-end
-    add-end-2
-    mul-end
-    mul-b
-    loop-holds
-    gib-at-requires
-    new-page-requires
-    add-count
-    add-b
-    loop-less
-    loop-again
-    returns)
+    (tie.spec add-high sub-high new-page-requires returns new-page-requires-2 add-result returns-2)

@@ -1,0 +1,91 @@
+use mathlib.Core.Path.{_≡_, refl, sym, ap, ap₂, _∙_, subst}
+use mathlib.Core.Bool.{Bool, true}
+use mathlib.Core.List.{List, headD}
+use Prim.Native.Nat.{ℕ, _+_, _/_, _<_, _^_}
+use native.Mathlib.Omega.{arith}
+use lib.ListN.{length, drop}
+use Rattle.model.specs.Stores.{blockStores, needsPage}
+use Rattle.model.specs.Forms.{Form, formIn}
+use Rattle.model.specs.Frame.{lent}
+use borrow.Author.Needs.{needs}
+use Rattle.edit.proofs.Edits.{form-encodes}
+use Rattle.edit.specs.Kinds.{Encodes, storesAt}
+use Rattle.edit.specs.Run.{run}
+use Rattle.forms.specs.Kinds.{requestOf, formOf, formAt}
+use Rattle.model.specs.Entry.{Entry}
+use Rattle.model.specs.Numbers.{if_then_else_}
+use Rattle.table.specs.Views.{frameOf, entryOf}
+use Rattle.theory.specs.Rooted.{Good}
+use Rattle.edit.proofs.block.mixed_step.Statement.{statement}
+use Rattle.edit.proofs.block.mixed_step.Tie as tie
+
+good-here : (c : tie.After-entry-at) → let a = c .before .before .before .args in Good (frameOf (a .f) (a .words .now)) (a .words .now) (entryOf (c .entry-at .result))
+good-here c =
+    let s = c .before .before .before in
+    subst (Good (frameOf (s .args .f) (s .args .words .now)) (s .args .words .now)) (sym (c .entry-at .ensures)) (s .pre .0 .good (s .args .b) (s .pre .1))
+
+form-here : (c : tie.After-block-form) → let a = c .before .before .before .before .before .args in
+    formOf (c .block-form .result) ≡ formAt (frameOf (a .f) (a .words .now)) (a .words .now) (requestOf (a .q)) (a .root .0) (a .gib) (a .b)
+form-here c =
+    let a = c .before .before .before .before .before .args in
+    c .block-form .ensures
+    ∙ ap (λ (e : Entry). formIn (frameOf (a .f) (a .words .now)) (a .words .now) (requestOf (a .q)) (a .gib .one) (a .gib .p) e (a .b)) (c .before .before .entry-at .ensures)
+
+entry-at-requires : tie.Need-entry-at-requires
+entry-at-requires c κs = search needs
+
+block-form-requires : tie.Need-block-form-requires
+block-form-requires c κs =
+    let s = c .before .before .before .before in
+    (omega (arith, s .pre .0 .few, s .pre .1), s .pre .2, good-here (c .before))
+
+page-from-requires : tie.Need-page-from-requires
+page-from-requires c κs = search needs
+
+next-page-requires : tie.Need-next-page-requires
+next-page-requires c κs = search needs
+
+block-stores-requires : tie.Need-block-stores-requires
+block-stores-requires c κs =
+    let s = c .before .before .before .before .before .before .before .before in
+    let a = s .args in
+    let bf = c .before .before .before in
+    let ea = bf .before .before in (
+      omega (arith, s .pre .0 .few, s .pre .1),
+      s .pre .2,
+      good-here ea,
+      s .pre .0 .isLent,
+      λ z. let y = s .pre .5 (sym (ap₂ (λ (x : Form) (e : Entry). needsPage x e) (form-here bf) (ea .entry-at .ensures)) ∙ z) in
+          subst (λ (n : ℕ). (lent (frameOf (a .f) (a .words .now)) n ≡ true) × (n < 2 ^ 44)) (sym (c .before .before .page-from .ensures)) y,
+      subst Encodes (sym (bf .block-form .ensures))
+          (form-encodes (a .f .paw) (a .f .first .0) (length (a .words .now) / 512) (a .words .now) (requestOf (a .q)) (s .pre .2 .small) (entryOf (ea .entry-at .result)) (good-here ea) (a .gib .one) (a .gib .p) (a .b) (s .pre .3)),
+    )
+
+same-length : tie.Need-same-length
+same-length c = search needs
+
+returns : tie.Need-returns
+returns c =
+    let s = c .before .before .before .before .before .before .before .before .before .before .before .before in
+    let a = s .args in
+    let bf = c .before .before .before .before .before .before .before in
+    let ea = bf .before .before in
+    let F = frameOf (a .f) (a .words .now) in (
+      c .before .before .before .block-stores .ensures
+          ∙ ap₂ (λ (x : Form) (e : Entry). run (a .left) (blockStores F (a .words .now) (requestOf (a .q)) (a .root .0) x e (a .b) (c .before .before .before .before .before .before .page-from .result .0)) (a .words .now)) (form-here bf) (ea .entry-at .ensures)
+          ∙ ap (λ (n : ℕ). run (a .left) (storesAt F (a .words .now) (requestOf (a .q)) (a .root .0) (a .gib) (a .b) n) (a .words .now)) (c .before .before .before .before .before .before .page-from .ensures),
+      c .before .before .before .before .before .next-page .ensures
+          ∙ ap₂ (λ (x : Form) (e : Entry). if needsPage x e then a .next + 1 else a .next) (form-here bf) (ea .entry-at .ensures),
+    )
+
+pub mixed-step-spec : {M : Type 1} → statement M
+mixed-step-spec =
+    tie.close
+    (tie.spec
+    entry-at-requires
+    block-form-requires
+    page-from-requires
+    next-page-requires
+    block-stores-requires
+    same-length
+    returns)

@@ -1,0 +1,24 @@
+use mathlib.Core.Path.{_≡_, ap, _∙_}
+use Prim.Native.Nat.{ℕ, _+_, _*_}
+use Rattle.forms.specs.Kinds.{requestOf}
+use Rattle.model.specs.Forms.{allAre}
+use Rattle.table.specs.Views.{frameOf, entryOf}
+use borrow.Author.Needs.{needs}
+use Rattle.forms.proofs.blocks.piece_is_one.Statement.{statement}
+use Rattle.forms.proofs.blocks.piece_is_one.Tie as tie
+use Rattle.forms.proofs.blocks.piece_is_one.Reads as reads
+use Rattle.forms.proofs.blocks.piece_is_one.Lts as lts
+use Rattle.forms.proofs.pieces.piece_at.Reads as piece-at-reads
+
+-- src/blocks.rt:45:9
+piece-at-requires : tie.Need-piece-at-requires
+piece-at-requires c κs = search needs
+
+-- src/blocks.rt:40:1
+returns : tie.Need-returns
+returns c = let a = c .before .before .args in
+    c .piece-at .ensures .1
+    ∙ ap (λ (p : ℕ). allAre (frameOf (a .f) (a .words .now)) (a .words .now) (requestOf (a .q)) (entryOf (a .e)) p 512 (a .b * 8192 + a .i * 512)) (c .piece-at .ensures .0)
+
+pub piece-is-one-spec : {M : Type 1} → statement M
+piece-is-one-spec = tie.close (tie.spec piece-at-requires returns)

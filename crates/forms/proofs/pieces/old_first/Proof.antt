@@ -1,0 +1,43 @@
+use mathlib.Core.Path.{_≡_, refl, sym, ap, _∙_, subst}
+use Prim.Native.Nat.{ℕ, _+_, _*_, _/_, _%_, _<_, _^_}
+use native.Mathlib.Omega.{arith}
+use lib.ListN.{length}
+use Rattle.forms.proofs.EntryLaws.{first-field, after-small, word-outside}
+use Rattle.forms.specs.Kinds.{requestOf}
+use Rattle.model.specs.Forms.{afterIn}
+use Rattle.table.specs.Views.{frameOf, entryOf}
+use borrow.Author.Needs.{needs}
+use Rattle.forms.proofs.pieces.old_first.Statement.{statement}
+use Rattle.forms.proofs.pieces.old_first.Tie as tie
+use Rattle.forms.proofs.pieces.old_first.Reads as reads
+use Rattle.forms.proofs.pieces.old_first.Lts as lts
+use Rattle.forms.proofs.words.old_word.Reads as old-word-reads
+
+-- src/pieces.rt:104:27
+mul-old-word : tie.Need-mul-old-word
+mul-old-word c = search needs
+
+-- src/pieces.rt:104:5
+old-word-requires : tie.Need-old-word-requires
+old-word-requires c κs = search needs
+
+-- src/pieces.rt:100:1
+returns : tie.Need-returns
+returns c = let a = c .before .before .args in
+    let pre = c .before .before .pre in
+    let u = pre .1 in
+    let z : a .b * 8192 + a .i * 32 * 16 ≡ a .b * 8192 + a .i * 512 = omega arith in
+    let e : c .old-word .result % 16 ≡ afterIn (frameOf (a .f) (a .words .now)) (a .words .now) (requestOf (a .q)) (entryOf (a .e)) (a .b * 8192 + a .i * 512)
+    = ap (λ (k : ℕ). k % 16)
+    (c .old-word .ensures
+    ∙ word-outside (a .f .paw) (a .f .first .0) (length (a .words .now) / 512) (a .words .now) (requestOf (a .q)) (pre .2 .small) (entryOf (a .e)) (pre .3) (a .b) (a .i * 32) (omega arith)
+    (subst (λ (k : ℕ). k < 2 ^ 64) (c .old-word .ensures) (c .old-word .ok)) (λ k lo hi. pre .4 k (omega arith) (omega arith)))
+    ∙ first-field (a .f .paw) (a .f .first .0) (length (a .words .now) / 512) (a .words .now) (requestOf (a .q)) (pre .2 .small) (entryOf (a .e)) (pre .3) (a .b) (a .i * 32)
+    ∙ ap (afterIn (frameOf (a .f) (a .words .now)) (a .words .now) (requestOf (a .q)) (entryOf (a .e))) z in (
+      e,
+      subst (λ (k : ℕ). k < 4) (sym e)
+          (after-small (a .f .paw) (a .f .first .0) (length (a .words .now) / 512) (a .words .now) (requestOf (a .q)) (pre .2 .small) (entryOf (a .e)) (pre .3) (a .b * 8192 + a .i * 512)),
+    )
+
+pub old-first-spec : {M : Type 1} → statement M
+old-first-spec = tie.close (tie.spec mul-old-word old-word-requires returns)
