@@ -1,9 +1,10 @@
-# make run: the main job. make test: the whole gate.
+# make run: the main job. make test: the whole gate. make board: the libraries that firmware links, and the trace of their stores.
 SHELL := /bin/bash
 .SHELLFLAGS := -o pipefail -c
-.PHONY: run test command host
+.PHONY: run test command host board
 
-library := $(CURDIR)/target/staticlib/libapi.a
+library := $(CURDIR)/target/board/libmpt-x86_64.a
+unmarked := $(CURDIR)/target/staticlib/libapi.a
 export MPT_LIBRARY := $(library)
 export CARGO_TARGET_DIR := $(CURDIR)/target/host
 mpt := target/host/release/mpt
@@ -18,15 +19,22 @@ run: command
 # rt ci comes last, so that its verdict is the last line
 test: command
 	@tests/definitions/run
-	@$(MAKE) --no-print-directory host
+	@$(MAKE) --no-print-directory board host
 	@rt ci
 
 # the command mpt over the proved library
 command:
 	@tools/kit
 	@tools/need cc:gcc cargo
-	@tools/library
+	@board/build
 	@cd host && cargo build --release --quiet --features proved
+
+# a trace of the stores that the library makes; the one with unmarked stores must be refused
+board: command
+	@tools/need valgrind
+	@board/trace/test $(library)
+	@if board/trace/test $(unmarked) >target/board/unmarked.log 2>&1; then echo "trace: unmarked stores were not refused" >&2; exit 1; fi
+	@echo "trace: unmarked stores are refused: $$(tail -n 1 target/board/unmarked.log | tr -s '[:space:]' ' ')"
 
 # the host side's own tests, a C program against the header alone, and random calls on all programs
 host: command

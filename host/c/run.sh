@@ -2,7 +2,7 @@
 # Compiles test.c against mpt.h and a static library, and runs it.
 set -eu
 if [ $# -ne 1 ]; then
-    echo "usage: c/run.sh LIBRARY (the proved static library, as in c/run.sh /path/to/libapi.a)" >&2
+    echo "usage: c/run.sh LIBRARY (the proved static library, as in c/run.sh /path/to/libmpt-x86_64.a)" >&2
     exit 2
 fi
 here=$(cd "$(dirname "$0")" && pwd)

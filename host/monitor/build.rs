@@ -14,7 +14,7 @@ fn main() {
 
 fn link() {
     let Some(library) = env::var_os("MPT_LIBRARY").map(PathBuf::from) else {
-        fail("feature `proved` needs the environment variable MPT_LIBRARY: the full path of the proved static library, as in MPT_LIBRARY=/path/to/libapi.a");
+        fail("feature `proved` needs the environment variable MPT_LIBRARY: the full path of the proved static library, as in MPT_LIBRARY=/path/to/libmpt-x86_64.a");
     };
     let folder = PathBuf::from(env::var_os("OUT_DIR").expect("cargo sets OUT_DIR"));
     copy(&library, &folder.join("libmpt_proved.a"));

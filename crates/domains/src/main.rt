@@ -40,6 +40,7 @@ fn say_reply(reply: Reply) {
         Reply::Refused(r) => number(b": refused ", of_refusal(r)),
         Reply::Opened => text(b": opened"),
         Reply::Closed => text(b": closed"),
+        Reply::Edited(_, _) => text(b": edited"),
     }
 }
 

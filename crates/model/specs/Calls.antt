@@ -12,7 +12,7 @@ use Rattle.model.specs.Frame.{Frame, frameOk, indexOf}
 use Rattle.model.specs.Sound.{Slot, register, emptySlot, isOpen, roots, sdids, sound, freePages}
 use Rattle.model.specs.Forms.{Request, Form, forms, firstGib}
 use Rattle.model.specs.Stores.{Store, apply, newPages, storesFrom}
-use Rattle.model.specs.Fence.{Fence, noFence, domainFence, addressFence, fenceFor}
+use Rattle.model.specs.Fence.{Fence, noFence, domainFence, fenceFor}
 
 -- Refused with a number; opened; closed; or edited: "how many stores it made and whether that was all"
 pub data Reply : Type 0 where
@@ -65,9 +65,7 @@ module _ (F : Frame) (m : List ℕ) (slots : List Slot) where
   notSound = (3, not (sound F m slots))
 
   -- ---- open
-
-  -- 4, "slot above 7; .. in use for open"; 8, "SDID above 63 or held by another open slot"; 7, "no free page for a root". "Lowest
-  -- number first, except that 8 comes before 7."
+  -- 4, "slot above 7; .. in use for open"; 8, "SDID above 63 or held by another open slot"; 7, "no free page for a root": "8 .. before 7"
   unfoldable pub openRefusal : ℕ → ℕ → ℕ
   openRefusal s sdid =
       firstMet
@@ -93,7 +91,6 @@ module _ (F : Frame) (m : List ℕ) (slots : List Slot) where
       if eqb (openRefusal s sdid) 0 then openAt (headD (freePages F m (roots F slots)) 0) s sdid else refuse (openRefusal s sdid)
 
   -- ---- close
-
   -- 4, "slot above 7; empty for close or edit"
   unfoldable pub closeRefusal : ℕ → ℕ
   closeRefusal s = firstMet (badFrame ∷ notSound ∷ (4, not (ltb s slotCount) || not (isOpen (slotAt slots s))) ∷ [])
@@ -106,7 +103,6 @@ module _ (F : Frame) (m : List ℕ) (slots : List Slot) where
       else refuse (closeRefusal s)
 
   -- ---- edit
-
   module _ (q : Request) where
     abbrev root : ℕ
     root = rootOf F slots q

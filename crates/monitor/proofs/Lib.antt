@@ -4,9 +4,11 @@
 --   SlotRoots      the root of an open slot of a sound table
 --   Refusals       what opening and closing leave, by the tests in their order
 --   EditRefusals   what an edit leaves, by the tests in their order
+--   Promise        code and the third demand together: calls that are cut anywhere
 pub mod Sdids
 pub mod Zeroes
 pub mod Ranges
 pub mod SlotRoots
 pub mod Refusals
 pub mod EditRefusals
+pub mod Promise

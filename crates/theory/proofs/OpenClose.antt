@@ -16,6 +16,7 @@ use Rattle.model.specs.Register.{ppnOf, registerOf, sdidOf}
 use Rattle.model.specs.Entry.{perm}
 use Rattle.model.specs.Frame.{Frame, frameOk, lent, pageOf, space}
 use Rattle.model.specs.Walk.{walk}
+use Rattle.model.specs.Lookup.{reads}
 use Rattle.model.specs.Sound.{Slot, emptySlot, freePages, isOpen, openRegisters, register, roots, sdids, sound, soundRegister, soundSlots, soundTable, used}
 use Rattle.model.specs.Calls.{closeRefusal, closeSlot, openAt, openRefusal, openSlot, slotAt}
 use Rattle.model.specs.Demands.{SamePermissions}
@@ -111,13 +112,21 @@ module _ (F : Frame) (lawful : Lawful (F .layout)) (m : List ℕ) (slots : List 
         (times-distinct (map (sdidOf (F .layout)) (openRegisters shut))
         (λ x. omega (arith, less (λ l. times x (map (sdidOf (F .layout)) l)) (image-times (sdidOf (F .layout)) x), distinct-times (sdids F slots) (old .1) x)))
 
-    -- closing keeps the table sound; it writes no byte, so every domain that is left reads as before
+    -- closing keeps the table sound
     pub close-sound : sound F (closeSlot F m slots s .memory) (closeSlot F m slots s .slots) ≡ true
     unfolding closeSlot sound
     close-sound =
         rw accepted
         (and-both shut-slots
         (from-sound F (roots F shut) m (less-sound F (ppnOf (F .layout) r) (roots F shut) RS one-less m (sound-at (close-finds .0)))))
+
+    -- it writes no byte, so every domain reads as before
+    pub close-memory : closeSlot F m slots s .memory ≡ m
+    unfolding closeSlot
+    close-memory = rw accepted
+
+    pub close-others : SamePermissions F slots (closeSlot F m slots s .memory) m
+    close-others r domain address kind = ap (λ (n : List ℕ). reads F n r address kind) close-memory
 
   -- ---- open
 
