@@ -5,6 +5,7 @@ use mathlib.Core.List.{List, [], _∷_, headD, tail}
 use Prim.Native.Nat.{ℕ, _*_, _<_, _^_}
 use lib.ListN.{length, take}
 use Rattle.model.specs.Layout.{gibBlocks}
+use Rattle.model.specs.Numbers.{joined}
 use Rattle.model.specs.Entry as entry
 use Rattle.model.specs.Frame as frame
 use Rattle.model.specs.Walk as walk
@@ -53,3 +54,7 @@ pub record Accepted (F : frame.Frame) (m : List ℕ) (q : model.Request) (root :
 -- the ordered list of its stores
 abbrev pub wholeList : frame.Frame → List ℕ → model.Request → ℕ → List ℕ → List stores.Store
 wholeList F m q root free = stores.storesFrom F m q root (model.firstGib q * gibBlocks) (model.forms F m q root) free
+
+-- the stores of n entries of block b's new page, from entry i on
+abbrev pub newRun : frame.Frame → List ℕ → model.Request → entry.Entry → ℕ → ℕ → ℕ → ℕ → List stores.Store
+newRun F m q e b new n i = joined (λ k. stores.storeAt F new k (model.l1Word F m q e b k) ∷ []) n i

@@ -13,7 +13,7 @@ ghost use mathlib.Core.Path.{_≡_};
 ghost use mathlib.Core.Bool.{true};
 ghost use Prim.Native.Nat.{_+_, _≤_, _<_, _^_};
 ghost use lib.ListN.{length};
-ghost use Rattle.forms.specs.Kinds.{requestOf, Fair, Below, Past, spreadOf, oldWord, mixedAt};
+ghost use Rattle.forms.specs.Kinds.{requestOf, Fair, spreadOf, oldWord, mixedAt};
 ghost use Rattle.model.specs.Forms.{l1Word};
 ghost use Rattle.model.specs.Frame.{lent, indexOf};
 ghost use Rattle.model.specs.Numbers.{pack};
@@ -85,27 +85,4 @@ pub fn after_word(f: Frame, words: &[u64], q: Request, e: Entry, b: u64, i: u64)
         Place::Outside => old_word(f, words, e, i),
         Place::Across => mixed_word(q, s, old_word(f, words, e, i)),
     }
-}
-
-// The same, where the range can meet the entries from .. to alone.
-pub fn word_near(
-    f: Frame,
-    words: &[u64],
-    q: Request,
-    e: Entry,
-    b: u64,
-    i: u64,
-    from: u64,
-    to: u64,
-) -> u64
-    requires { ⌜ (b < 512) × (i < 512) × Fair q × Good (frameOf f (now words)) (now words) (entryOf e) × Below (requestOf q) b from × Past (requestOf q) b to ⌝ }
-    ensures { λ r. ⌜ r ≡ l1Word (frameOf f (now (words .entry))) (now (words .entry)) (requestOf q) (entryOf e) b i ⌝ }
-{
-    if i < from {
-        return old_word(f, words, e, i);
-    }
-    if to <= i {
-        return old_word(f, words, e, i);
-    }
-    after_word(f, words, q, e, b, i)
 }

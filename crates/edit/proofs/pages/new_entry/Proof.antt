@@ -19,8 +19,8 @@ page-at-requires c κs = search needs
 add-at : tie.Need-add-at
 add-at c = search needs
 
-word-near-requires : tie.Need-word-near-requires
-word-near-requires c κs = search needs
+after-word-requires : tie.Need-after-word-requires
+after-word-requires c κs = search needs
 
 put-requires : tie.Need-put-requires
 put-requires c κs = search needs
@@ -37,9 +37,9 @@ returns c =
     = ap (λ (k : ℕ). k + a .i) (c .before .before .before .before .before .before .page-at .ensures .0) ∙ index-add _ (a .new .0) (a .i) in
     c .before .before .put .ensures
     ∙ ap (λ (ss : List Store). run (a .left) ss (a .words .now)) (store-at G (a .new .0) (a .i) _ _ at)
-    ∙ ap (λ (w : ℕ). run (a .left) (storeAt G (a .new .0) (a .i) w ∷ []) (a .words .now)) (c .before .before .before .before .word-near .ensures)
+    ∙ ap (λ (w : ℕ). run (a .left) (storeAt G (a .new .0) (a .i) w ∷ []) (a .words .now)) (c .before .before .before .before .after-word .ensures)
 
 pub new-entry-spec : {M : Type 1} → statement M
 new-entry-spec =
     tie.close
-    (tie.spec page-at-requires add-at word-near-requires put-requires same-length returns)
+    (tie.spec page-at-requires add-at after-word-requires put-requires same-length returns)

@@ -1,96 +1,128 @@
-use mathlib.Core.Path.{_≡_, refl, sym, ap, ap₂, _∙_, subst}
+use mathlib.Core.Path.{sym, ap, _∙_}
 use mathlib.Core.List.{List}
-use mathlib.Core.Bool.{Bool, true, false}
-use Prim.Native.Nat.{ℕ, _+_, _-_, _≤_, _<_}
 use native.Mathlib.Omega.{arith}
-use borrow.Author.Needs.{needs}
 use borrow.Author.Tests.{not-true, not-false}
-use lib.ListN.{length}
-use Rattle.model.specs.Frame.{Frame, lent}
-use Rattle.edit.proofs.Blocks.{New, new-start, new-next, new-cut, new-end, frame-same, good-plain}
-use Rattle.edit.proofs.Runs.{out-whole, out-cut}
+use Rattle.edit.proofs.Blocks.{run-same, run-parts, good-same, lent-same}
+use Rattle.edit.proofs.Runs.{out-whole, out-cut, first-cut, then-rest}
+use Rattle.edit.specs.Run.{run}
 use Rattle.forms.specs.Kinds.{requestOf}
-use Rattle.model.specs.Entry.{table}
-use Rattle.table.specs.Views.{frameOf, entryOf}
-use Rattle.theory.specs.Rooted.{Good}
+use Rattle.model.specs.Stores.{Store}
+use Rattle.table.specs.Views.{entryOf}
+use borrow.Author.Needs.{needs}
 use Rattle.edit.proofs.pages.new_table.Statement.{statement}
 use Rattle.edit.proofs.pages.new_table.Tie as tie
 
-abbrev Inv-loop : tie.InvT-loop
-Inv-loop f words₀ q e b new from to more₀ i₀ words more i = New f (requestOf q) (entryOf e) b (new .0) words₀ more₀ words more i
-
-abbrev μ-loop : tie.MeasureT-loop
-μ-loop f words₀ q e b new from to more₀ i₀ words more i = 512 - i
-
-first-entry-requires : tie.Need-first-entry-requires Inv-loop μ-loop
+first-entry-requires : tie.Need-first-entry-requires
 first-entry-requires c κs = search needs
 
-past-entry-requires : tie.Need-past-entry-requires Inv-loop μ-loop
-past-entry-requires c κs = search needs
+near-end-requires : tie.Need-near-end-requires
+near-end-requires c κs = search needs
 
-loop-holds : tie.Need-loop-holds Inv-loop μ-loop
-loop-holds c = new-start _ _ _ _ _ _ _
+old-entries-requires : tie.Need-old-entries-requires
+old-entries-requires c κs = let fe = c .before .before in
+    let s = fe .before .before in
+    (s .pre .0, fe .first-entry .ensures .0, omega arith, s .pre .1, s .pre .2, s .pre .3, s .pre .4, λ k lo hi. fe .first-entry .ensures .1 k (omega arith) (omega arith))
 
-new-entry-requires : tie.Need-new-entry-requires Inv-loop μ-loop
-new-entry-requires c κs =
-    let l = c .before .before in
-    let s = l .before .before .before .before in
-    let same = sym (frame-same (s .args .f) (l .loop .words) (s .args .words .now) (l .loop .inv .size)) in (
+same-length : tie.Need-same-length
+same-length c = search needs
+
+returns : tie.Need-returns
+returns c = let oe = c .before .before .before .before in
+    let n = oe .before .before in
+    let fe = n .before in
+    let s = fe .before .before in
+    let a = s .args in
+    let r = oe .old-entries in
+    first-cut (a .left) _ (a .words .now) _ (r .ensures) (out-cut (r .result .all) (r .result .left) (r .last .1 .0) (not-true (r .result .all) (c .if1 .taken))) _
+    ∙ ap (λ (ss : List Store). run (a .left) ss (a .words .now)) (sym (run-parts (a .f) (requestOf (a .q)) (s .pre .1 .small) (entryOf (a .e)) (s .pre .4) (a .b) (a .new .0) (a .words .now) (fe .first-entry .result) (n .near-end .result) (n .near-end .ensures .0) (n .near-end .ensures .1)))
+
+new-entries-requires : tie.Need-new-entries-requires
+new-entries-requires c κs = let oe = c .before .before .before .before .before .before in
+    let n = oe .before .before in
+    let s = n .before .before .before in
+    let a = s .args in
+    let r = oe .old-entries in (
       s .pre .0,
-      omega arith,
+      n .near-end .ensures .1,
+      n .near-end .ensures .0,
       s .pre .1,
-      subst (λ (X : Frame). Good X (l .loop .words) (entryOf (s .args .e))) same
-          (good-plain (frameOf (s .args .f) (s .args .words .now)) (s .args .words .now) (l .loop .words) (entryOf (s .args .e)) (s .pre .4) (s .pre .2)),
-      subst (λ (X : Frame). lent X (s .args .new .0) ≡ true) same (s .pre .3),
-      l .before .before .first-entry .ensures .1,
-      l .before .past-entry .ensures .1,
+      good-same (a .f) (requestOf (a .q)) (s .pre .1 .small) (entryOf (a .e)) (s .pre .4) (a .b) (a .new .0) (a .words .now) (s .pre .2) (r .last .1 .0) (r .kept .1 .0),
+      lent-same (a .f) (requestOf (a .q)) (s .pre .1 .small) (entryOf (a .e)) (s .pre .4) (a .b) (a .new .0) (a .words .now) (s .pre .3) (r .last .1 .0) (r .kept .1 .0),
+      s .pre .4,
     )
 
-same-length : tie.Need-same-length Inv-loop μ-loop
-same-length c = c .before .before .before .before .new-entry .kept .1 .0 ∙ c .before .before .before .before .before .before .before .loop .inv .size
+same-length-2 : tie.Need-same-length-2
+same-length-2 c = search needs
 
-returns : tie.Need-returns Inv-loop μ-loop
-returns c =
-    let r = c .before .before .before .before .new-entry in
-    let l = c .before .before .before .before .before .before .before in
-    let s = l .before .before .before .before in
-    new-cut _ _ _ _ _ _ _ (s .pre .1 .small) (s .pre .4) (s .pre .3) (l .loop .words) (l .loop .more) (l .loop .i) (l .loop .inv) (c .before .before .before .before .before .before .loop-test .taken) _ (r .ensures)
-    (out-cut (r .result .all) (r .result .left) (r .last .1 .0) (not-true (r .result .all) (c .if1 .taken)))
+returns-2 : tie.Need-returns-2
+returns-2 c = let ne = c .before .before .before .before in
+    let el = ne .before .before .before in
+    let oe = el .before .before .before .before in
+    let n = oe .before .before in
+    let fe = n .before in
+    let s = fe .before .before in
+    let a = s .args in
+    let r = oe .old-entries in
+    let t = ne .new-entries in
+    then-rest (a .left) _ (a .words .now) (r .result .left) (r .last .1 .0) _ _ (r .ensures) (out-whole (r .result .all) (r .result .left) (r .last .1 .0) (not-false (r .result .all) (el .if1 .left))) _
+    (first-cut (r .result .left) _ (r .last .1 .0) _
+    (t .ensures ∙ ap (λ (ss : List Store). run (r .result .left) ss (r .last .1 .0)) (run-same (a .f) (requestOf (a .q)) (s .pre .1 .small) (entryOf (a .e)) (s .pre .4) (a .b) (a .new .0) (a .words .now) (r .last .1 .0) (r .kept .1 .0) _ _))
+    (out-cut (t .result .all) (t .result .left) (t .last .1 .0) (not-true (t .result .all) (c .if2 .taken))) _)
+    ∙ ap (λ (ss : List Store). run (a .left) ss (a .words .now)) (sym (run-parts (a .f) (requestOf (a .q)) (s .pre .1 .small) (entryOf (a .e)) (s .pre .4) (a .b) (a .new .0) (a .words .now) (fe .first-entry .result) (n .near-end .result) (n .near-end .ensures .0) (n .near-end .ensures .1)))
 
-add-i : tie.Need-add-i Inv-loop μ-loop
-add-i c = let s = c .before .before .before .before .before .before .before .before .loop .inv in omega arith
+old-entries-requires-2 : tie.Need-old-entries-requires-2
+old-entries-requires-2 c κs = let ne = c .before .before .before .before .before .before in
+    let el = ne .before .before .before in
+    let oe = el .before .before .before .before in
+    let n = oe .before .before in
+    let s = n .before .before .before in
+    let a = s .args in
+    let r = oe .old-entries in
+    let t = ne .new-entries in (
+      s .pre .0,
+      omega arith,
+      n .near-end .ensures .1,
+      s .pre .1,
+      good-same (a .f) (requestOf (a .q)) (s .pre .1 .small) (entryOf (a .e)) (s .pre .4) (a .b) (a .new .0) (a .words .now) (s .pre .2) (t .last .1 .0) (t .kept .1 .0 ∙ r .kept .1 .0),
+      lent-same (a .f) (requestOf (a .q)) (s .pre .1 .small) (entryOf (a .e)) (s .pre .4) (a .b) (a .new .0) (a .words .now) (s .pre .3) (t .last .1 .0) (t .kept .1 .0 ∙ r .kept .1 .0),
+      s .pre .4,
+      λ k lo hi. n .near-end .ensures .2 k (omega arith) (omega (arith, n .near-end .ensures .1)),
+    )
 
-loop-less : tie.Need-loop-less Inv-loop μ-loop
-loop-less c = let s = c .before .before .before .before .before .before .before .before .loop .inv in omega arith
+same-length-3 : tie.Need-same-length-3
+same-length-3 c = search needs
 
-loop-again : tie.Need-loop-again Inv-loop μ-loop
-loop-again c =
-    let r = c .before .before .before .before .before .new-entry in
-    let l = c .before .before .before .before .before .before .before .before in
-    let s = l .before .before .before .before in
-    new-next _ _ _ _ _ _ _ (s .pre .1 .small) (s .pre .4) (s .pre .3) (l .loop .words) (l .loop .more) (l .loop .i) (l .loop .inv) (c .before .before .before .before .before .before .before .loop-test .taken) _ (r .ensures)
-    (out-whole (r .result .all) (r .result .left) (r .last .1 .0) (not-false (r .result .all) (c .before .if1 .left)))
-
-same-length-2 : tie.Need-same-length-2 Inv-loop μ-loop
-same-length-2 c = c .before .loop .inv .size
-
-returns-2 : tie.Need-returns-2 Inv-loop μ-loop
-returns-2 c = new-end _ _ _ _ _ _ _ _ _ _ (c .before .loop .inv) (c .loop-test .left)
+returns-3 : tie.Need-returns-3
+returns-3 c = let u = c .before .before .old-entries2 in
+    let el2 = c .before .before .before .before .before in
+    let ne = el2 .before .before .before .before in
+    let el = ne .before .before .before in
+    let oe = el .before .before .before .before in
+    let n = oe .before .before in
+    let fe = n .before in
+    let s = fe .before .before in
+    let a = s .args in
+    let r = oe .old-entries in
+    let t = ne .new-entries in
+    then-rest (a .left) _ (a .words .now) (r .result .left) (r .last .1 .0) _ _ (r .ensures) (out-whole (r .result .all) (r .result .left) (r .last .1 .0) (not-false (r .result .all) (el .if1 .left))) _
+    (then-rest (r .result .left) _ (r .last .1 .0) (t .result .left) (t .last .1 .0) _ _
+    (t .ensures ∙ ap (λ (ss : List Store). run (r .result .left) ss (r .last .1 .0)) (run-same (a .f) (requestOf (a .q)) (s .pre .1 .small) (entryOf (a .e)) (s .pre .4) (a .b) (a .new .0) (a .words .now) (r .last .1 .0) (r .kept .1 .0) _ _))
+    (out-whole (t .result .all) (t .result .left) (t .last .1 .0) (not-false (t .result .all) (el2 .if2 .left))) _
+    (u .ensures ∙ ap (λ (ss : List Store). run (t .result .left) ss (t .last .1 .0)) (run-same (a .f) (requestOf (a .q)) (s .pre .1 .small) (entryOf (a .e)) (s .pre .4) (a .b) (a .new .0) (a .words .now) (t .last .1 .0) (t .kept .1 .0 ∙ r .kept .1 .0) _ _)))
+    ∙ ap (λ (ss : List Store). run (a .left) ss (a .words .now)) (sym (run-parts (a .f) (requestOf (a .q)) (s .pre .1 .small) (entryOf (a .e)) (s .pre .4) (a .b) (a .new .0) (a .words .now) (fe .first-entry .result) (n .near-end .result) (n .near-end .ensures .0) (n .near-end .ensures .1)))
 
 pub new-table-spec : {M : Type 1} → statement M
 new-table-spec =
     tie.close
     (tie.spec
-    Inv-loop
-    μ-loop
     first-entry-requires
-    past-entry-requires
-    loop-holds
-    new-entry-requires
+    near-end-requires
+    old-entries-requires
     same-length
     returns
-    add-i
-    loop-less
-    loop-again
+    new-entries-requires
     same-length-2
-    returns-2)
+    returns-2
+    old-entries-requires-2
+    same-length-3
+    returns-3)
