@@ -1,6 +1,10 @@
---   EntryLaws   L1 entries: digits, old and new words, runs of pages, forms of a block
+--   Fields      numbers by their digits, and the pages of a range
+--   EntryLaws   the words of an L1 page, before the edit and after it
+--   FormLaws    the finished form of a block
 --   GibLaws     the blocks of a GiB
 --   CountLaws   the new pages of an edit, of which only the blocks at the ends of the range take any
+pub mod Fields
 pub mod EntryLaws
+pub mod FormLaws
 pub mod GibLaws
 pub mod CountLaws

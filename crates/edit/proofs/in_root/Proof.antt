@@ -4,7 +4,7 @@ use native.Mathlib.Omega.{arith}
 use lib.Dec.{ltb}
 use borrow.Author.Tests.{le-leb, lt-leb, lt-ltb}
 use borrow.Author.Needs.{needs}
-use Rattle.forms.proofs.EntryLaws.{index-add}
+use Rattle.forms.proofs.Fields.{index-add}
 use Rattle.model.specs.Fence.{inRoot}
 use Rattle.model.specs.Frame.{blocks, indexOf}
 use Rattle.table.specs.Views.{frameOf}

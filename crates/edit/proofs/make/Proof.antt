@@ -7,8 +7,8 @@ use lib.ListN.{length}
 use Rattle.model.specs.Frame.{Frame, lent, boundsOk}
 use borrow.Author.Needs.{needs}
 use Rattle.edit.proofs.Answers.{all-fits, all-memory, all-count, all-true, all-fence, cut-memory, cut-count, cut-false, cut-fence}
-use Rattle.edit.proofs.Blocks.{frame-same}
-use Rattle.edit.proofs.Edits.{root-lent, bounds-in}
+use Rattle.edit.proofs.Places.{frame-same}
+use Rattle.edit.proofs.Facts.{root-lent, bounds-in}
 use Rattle.edit.proofs.Runs.{out-whole, out-cut}
 use Rattle.edit.specs.Done.{fenceAfter}
 use Rattle.edit.specs.Kinds.{wholeList, Accepted, freeList}

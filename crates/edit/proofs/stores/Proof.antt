@@ -7,7 +7,9 @@ use Prim.Native.Nat.{ℕ, _+_, _-_, _*_, _/_, _≤_, _<_}
 use native.Mathlib.Omega.{arith}
 use borrow.Author.Tests.{not-true, not-false}
 use lib.ListN.{length}
-use Rattle.edit.proofs.Edits.{Facts, facts, Turn, turn-start, turn-rooted, turn-room, turn-in, turn-flag, turn-fresh, turn-cut, turn-next, turn-end, size}
+use Rattle.edit.proofs.Facts.{Facts, facts}
+use Rattle.edit.proofs.Turns.{Turn, turn-start, turn-rooted, turn-room, turn-in, turn-flag, turn-fresh, turn-cut, turn-next, turn-end}
+use Rattle.edit.proofs.Going.{size}
 use Rattle.edit.proofs.Runs.{out-whole, out-cut}
 use Rattle.forms.specs.declared.Gib.{Gib}
 use Rattle.edit.specs.Kinds.{freeList}

@@ -12,7 +12,7 @@ use Rattle.table.specs.Views.{frameOf}
 use Rattle.forms.specs.Kinds.{requestOf}
 use Rattle.edit.specs.Kinds.{Accepted, freeList}
 use Rattle.edit.specs.Done.{IsMade}
-use Rattle.edit.proofs.Edits.{accepted-list}
+use Rattle.edit.proofs.Facts.{accepted-list}
 use Rattle.monitor.proofs.EditRefusals.{made-is, listed-front}
 use Rattle.monitor.proofs.edit_made.Statement.{statement}
 use Rattle.monitor.proofs.edit_made.Tie as tie

@@ -8,7 +8,7 @@ use Rattle.model.specs.Stores.{blockStores, needsPage}
 use Rattle.model.specs.Forms.{Form, formIn}
 use Rattle.model.specs.Frame.{lent}
 use borrow.Author.Needs.{needs}
-use Rattle.edit.proofs.Edits.{form-encodes}
+use Rattle.edit.proofs.Facts.{form-encodes}
 use Rattle.edit.specs.Kinds.{Encodes, storesAt}
 use Rattle.edit.specs.Run.{run}
 use Rattle.forms.specs.Kinds.{requestOf, formOf, formAt}

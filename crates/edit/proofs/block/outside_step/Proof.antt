@@ -3,7 +3,7 @@ use mathlib.Core.List.{List, headD}
 use Prim.Native.Nat.{ℕ, _*_, _<_}
 use native.Mathlib.Omega.{arith}
 use lib.ListN.{drop}
-use Rattle.edit.proofs.Blocks.{info-stores, info-next, flat-form, pieces-form}
+use Rattle.edit.proofs.PiecesBlock.{info-stores, info-next, flat-form, pieces-form}
 use Rattle.edit.specs.Kinds.{freeList}
 use Rattle.edit.specs.Run.{run}
 use Rattle.forms.specs.Kinds.{requestOf}

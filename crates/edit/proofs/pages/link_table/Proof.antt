@@ -7,9 +7,10 @@ use borrow.Author.Tests.{not-true, not-false}
 use lib.ListN.{length}
 use Rattle.model.specs.Frame.{Frame, lent}
 use borrow.Author.Needs.{needs}
-use Rattle.edit.proofs.Blocks.{frame-same, link-end}
+use Rattle.edit.proofs.Places.{frame-same}
+use Rattle.edit.proofs.NewPage.{link-end}
 use Rattle.edit.proofs.Runs.{out-whole, out-cut, run-off}
-use Rattle.forms.proofs.EntryLaws.{index-add}
+use Rattle.forms.proofs.Fields.{index-add}
 use Rattle.forms.specs.Kinds.{requestOf}
 use Rattle.model.specs.Entry.{table, encode}
 use Rattle.model.specs.Layout.{rv64}

@@ -7,7 +7,8 @@ use borrow.Author.Needs.{needs}
 use borrow.Author.Tests.{not-true, not-false}
 use lib.ListN.{length}
 use Rattle.model.specs.Frame.{Frame, lent}
-use Rattle.edit.proofs.Blocks.{New, new-start, new-next, new-cut, new-end, frame-same, good-plain}
+use Rattle.edit.proofs.NewPage.{New, new-start, new-next, new-cut, new-end}
+use Rattle.edit.proofs.Places.{frame-same, good-plain}
 use Rattle.edit.proofs.Runs.{out-whole, out-cut}
 use Rattle.forms.specs.Kinds.{requestOf}
 use Rattle.model.specs.Entry.{table}

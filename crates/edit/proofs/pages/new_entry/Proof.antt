@@ -2,9 +2,9 @@ use mathlib.Core.Path.{_≡_, refl, sym, ap, ap₂, _∙_, subst}
 use mathlib.Core.List.{List, [], _∷_}
 use Prim.Native.Nat.{ℕ, _+_}
 use borrow.Author.Needs.{needs}
-use Rattle.edit.proofs.Blocks.{changed-at, store-at}
+use Rattle.edit.proofs.Places.{changed-at, store-at}
 use Rattle.edit.specs.Run.{run}
-use Rattle.forms.proofs.EntryLaws.{index-add}
+use Rattle.forms.proofs.Fields.{index-add}
 use Rattle.forms.specs.Kinds.{requestOf}
 use Rattle.model.specs.Forms.{l1Word}
 use Rattle.model.specs.Frame.{indexOf}

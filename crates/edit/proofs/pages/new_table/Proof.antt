@@ -2,7 +2,7 @@ use mathlib.Core.Path.{sym, ap, _∙_}
 use mathlib.Core.List.{List}
 use native.Mathlib.Omega.{arith}
 use borrow.Author.Tests.{not-true, not-false}
-use Rattle.edit.proofs.Blocks.{run-same, run-parts, good-same, lent-same}
+use Rattle.edit.proofs.NewPage.{run-same, run-parts, good-same, lent-same}
 use Rattle.edit.proofs.Runs.{out-whole, out-cut, first-cut, then-rest}
 use Rattle.edit.specs.Run.{run}
 use Rattle.forms.specs.Kinds.{requestOf}

@@ -1,7 +1,7 @@
 use mathlib.Core.Path.{_≡_, refl, sym, ap, _∙_}
 use native.Mathlib.Omega.{arith}
 use borrow.Author.Needs.{needs}
-use Rattle.edit.proofs.Blocks.{own-none}
+use Rattle.edit.proofs.OwnPage.{own-none}
 use Rattle.forms.specs.Kinds.{requestOf}
 use Rattle.edit.proofs.pages.own_table.Statement.{statement}
 use Rattle.edit.proofs.pages.own_table.Tie as tie

@@ -7,7 +7,8 @@ use borrow.Author.Needs.{needs}
 use borrow.Author.Tests.{not-true, not-false}
 use lib.ListN.{length}
 use Rattle.model.specs.Frame.{Frame}
-use Rattle.edit.proofs.Blocks.{Same, same-start, same-next, same-cut, same-end, frame-same}
+use Rattle.edit.proofs.OwnPage.{Same, same-start, same-next, same-cut, same-end}
+use Rattle.edit.proofs.Places.{frame-same}
 use Rattle.edit.proofs.Runs.{out-whole, out-cut}
 use Rattle.forms.specs.Kinds.{requestOf}
 use Rattle.model.specs.Entry.{table}

@@ -3,7 +3,8 @@ use Prim.Native.Nat.{_+_, _/_, _%_}
 use native.Mathlib.Omega.{arith}
 use borrow.Author.Tests.{not-true}
 use lib.ListN.{length}
-use Rattle.forms.proofs.EntryLaws.{isOne, every-fail, form-table}
+use Rattle.forms.proofs.FormLaws.{isOne, form-table}
+use Rattle.forms.proofs.Fields.{every-fail}
 use Rattle.forms.specs.Kinds.{requestOf}
 use Rattle.table.specs.Views.{frameOf, entryOf}
 use borrow.Author.Needs.{needs}

@@ -3,7 +3,7 @@ use Prim.Native.Nat.{ℕ, _/_, _<_}
 use native.Mathlib.Omega.{arith}
 use borrow.Author.Needs.{needs}
 use lib.ListN.{length}
-use Rattle.forms.proofs.EntryLaws.{form-flat, form-not, form-inside}
+use Rattle.forms.proofs.FormLaws.{form-flat, form-not, form-inside}
 use Rattle.forms.specs.Kinds.{requestOf}
 use Rattle.table.specs.Views.{entryOf}
 use Rattle.forms.proofs.blocks.block_form.Statement.{statement}

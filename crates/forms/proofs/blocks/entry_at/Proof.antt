@@ -2,7 +2,7 @@ use mathlib.Core.Path.{_≡_, sym, ap, _∙_}
 use Prim.Native.Nat.{ℕ, _+_}
 use lib.ListN.{getD}
 use borrow.Author.Needs.{needs}
-use Rattle.forms.proofs.EntryLaws.{index-add}
+use Rattle.forms.proofs.Fields.{index-add}
 use Rattle.model.specs.Entry.{decode}
 use Rattle.model.specs.Frame.{wordAt, indexOf}
 use Rattle.model.specs.Layout.{rv64}

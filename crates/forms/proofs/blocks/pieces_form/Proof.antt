@@ -6,7 +6,9 @@ use native.Mathlib.Omega.{arith}
 use borrow.Author.Needs.{needs}
 use borrow.Author.Tests.{not-true, not-false}
 use lib.ListN.{length}
-use Rattle.forms.proofs.EntryLaws.{firstOf, isOne, horner, every-down, every-fail, pack4-fits, after-small, form-pieces, form-table}
+use Rattle.forms.proofs.FormLaws.{firstOf, isOne, form-pieces, form-table}
+use Rattle.forms.proofs.Fields.{horner, every-down, every-fail, pack4-fits}
+use Rattle.forms.proofs.EntryLaws.{after-small}
 use Rattle.forms.specs.Kinds.{requestOf}
 use Rattle.model.specs.Forms.{allAre, wantPieces}
 use Rattle.model.specs.Numbers.{pack, every}

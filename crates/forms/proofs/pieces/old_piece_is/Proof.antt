@@ -4,7 +4,9 @@ use native.Mathlib.Omega.{arith}
 use lib.ListN.{length, getD}
 use lib.Dec.{eqb}
 use borrow.Author.Needs.{needs}
-use Rattle.forms.proofs.EntryLaws.{run-outside, eqb-swap, index-add, piece-words}
+use Rattle.forms.proofs.EntryLaws.{run-outside}
+use Rattle.forms.proofs.Fields.{eqb-swap, index-add}
+use Rattle.forms.proofs.FormLaws.{piece-words}
 use Rattle.forms.specs.Kinds.{requestOf, spreadOf}
 use Rattle.model.specs.Entry.{Entry}
 use Rattle.model.specs.Forms.{allAre, permOf}

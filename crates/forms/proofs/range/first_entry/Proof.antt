@@ -1,5 +1,5 @@
 use native.Mathlib.Omega.{arith}
-use Rattle.forms.proofs.EntryLaws.{below-false}
+use Rattle.forms.proofs.Fields.{below-false}
 use borrow.Author.Needs.{needs}
 use Rattle.forms.proofs.range.first_entry.Statement.{statement}
 use Rattle.forms.proofs.range.first_entry.Tie as tie

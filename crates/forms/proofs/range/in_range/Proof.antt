@@ -2,7 +2,7 @@ use mathlib.Core.Path.{sym}
 use borrow.Author.Tests.{le-leb}
 use native.Mathlib.Omega.{arith}
 use borrow.Author.Needs.{needs}
-use Rattle.forms.proofs.EntryLaws.{below-false}
+use Rattle.forms.proofs.Fields.{below-false}
 use Rattle.model.specs.Forms.{inRange}
 use Rattle.forms.proofs.range.in_range.Statement.{statement}
 use Rattle.forms.proofs.range.in_range.Tie as tie

@@ -1,6 +1,6 @@
 use native.Mathlib.Omega.{arith}
 use borrow.Author.Needs.{needs}
-use Rattle.forms.proofs.EntryLaws.{in-true, below-false, above-false}
+use Rattle.forms.proofs.Fields.{in-true, below-false, above-false}
 use Rattle.forms.proofs.range.lies.Statement.{statement}
 use Rattle.forms.proofs.range.lies.Tie as tie
 

@@ -1,5 +1,5 @@
 use native.Mathlib.Omega.{arith}
-use Rattle.forms.proofs.EntryLaws.{above-false}
+use Rattle.forms.proofs.Fields.{above-false}
 use borrow.Author.Needs.{needs}
 use Rattle.forms.proofs.range.past_entry.Statement.{statement}
 use Rattle.forms.proofs.range.past_entry.Tie as tie

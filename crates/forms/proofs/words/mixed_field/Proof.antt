@@ -4,7 +4,7 @@ use Prim.Native.Nat.{_+_}
 use native.Mathlib.Omega.{arith}
 use mathlib.Core.Path.{sym, _∙_}
 use borrow.Author.Needs.{needs}
-use Rattle.forms.proofs.EntryLaws.{outside}
+use Rattle.forms.proofs.Fields.{outside}
 use Rattle.forms.specs.Kinds.{requestOf}
 use Rattle.model.specs.Forms.{inRange}
 use Rattle.forms.proofs.words.mixed_field.Statement.{statement}

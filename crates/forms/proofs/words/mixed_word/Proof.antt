@@ -4,7 +4,7 @@ use mathlib.Core.Path.{_≡_, refl}
 use Prim.Native.Nat.{ℕ, _+_, _-_, _*_, _≤_, _<_}
 use native.Mathlib.Omega.{arith}
 use borrow.Author.Needs.{needs}
-use Rattle.forms.proofs.EntryLaws.{horner, pack-fits, mixed-small}
+use Rattle.forms.proofs.Fields.{horner, pack-fits, mixed-small}
 use Rattle.forms.specs.Kinds.{requestOf, mixedAt}
 use Rattle.model.specs.Numbers.{pack}
 use Rattle.forms.proofs.words.mixed_word.Statement.{statement}

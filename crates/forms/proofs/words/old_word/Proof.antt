@@ -4,7 +4,7 @@ use lib.ListN.{getD}
 use mathlib.Core.Path.{sym, _∙_, ap}
 use native.Mathlib.Omega.{arith}
 use borrow.Author.Needs.{needs}
-use Rattle.forms.proofs.EntryLaws.{index-add}
+use Rattle.forms.proofs.Fields.{index-add}
 use Rattle.forms.specs.Kinds.{spreadOf}
 use Rattle.model.specs.Frame.{indexOf, wordAt}
 use Rattle.forms.proofs.words.old_word.Statement.{statement}

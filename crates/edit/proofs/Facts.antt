@@ -1,0 +1,151 @@
+-- What is known of an accepted edit; and the stores of a block, from two memories that have the same of it.
+use mathlib.Core.Path.{_≡_, refl, sym, ap, ap₂, _∙_, subst}
+use mathlib.Core.Bool.{Bool, true, false}
+use mathlib.Core.List.{List, [], _∷_, _++_}
+use Prim.Native.Nat.{ℕ, _+_, _*_, _^_, _≤_, _<_, min}
+use native.Mathlib.Omega.{arith}
+use lib.Dec.{eqb}
+use lib.ListN.{length, take, drop, length-take, take-append-drop}
+use Rattle.edit.specs.Kinds.{Plain, Encodes, Accepted, wholeList}
+use Rattle.forms.proofs.EntryLaws.{after-small}
+use Rattle.laws.proofs.Choices.{split, and-true}
+use Rattle.laws.proofs.Digits.{pack-lt}
+use Rattle.model.specs.Entry.{Entry, flat, pieces, table, invalid, encode}
+use Rattle.model.specs.Forms.{Request, Form, wantPieces, l1Word, wantFlat, wantTable, formIn, piecesAreOne, piecesInfo, forms, firstGib, gibs}
+use Rattle.model.specs.Frame.{Frame, lent, wordAt, blocks, space, boundsOk, frameOk}
+use Rattle.model.specs.Layout.{rv64}
+use Rattle.model.specs.Numbers.{if_then_else_}
+use Rattle.model.specs.Stores.{Store, storeAt, storeL2, ifChanged, ifChangedL2, sameTable, newTable, blockStores, newPages, linkTable}
+use Rattle.model.specs.Walk.{entryPage, l2Word}
+use Rattle.table.specs.Views.{frameOf}
+use Rattle.theory.specs.Rooted.{Good}
+use lib.Pow.{pow-mono}
+use Rattle.edit.proofs.Answers.{list-is}
+use Rattle.laws.proofs.Sums.{times-measure}
+use Rattle.theory.proofs.NewPages.{two-pages}
+use Rattle.laws.proofs.Times.{times, times-append}
+use Rattle.model.specs.Calls.{rootOf, storeList}
+use Rattle.model.specs.Sound.{roots, freePages, used}
+use Rattle.theory.proofs.Accepts.{Accept, to-accept, range-of, root-in}
+use Rattle.theory.proofs.Entries.{rv64-lawful}
+use Rattle.theory.proofs.Frames.{Ok, blocks-pos}
+use Rattle.theory.proofs.Free.{free-in, free-once}
+use Rattle.theory.proofs.Ranges.{touched-inside}
+use Rattle.theory.proofs.Steps.{root-lent as page-lent}
+use Rattle.theory.proofs.Tables.{Sound}
+use Rattle.theory.proofs.Used.{pagesOf, links, used-measure}
+use Rattle.theory.proofs.WholeCall.{Edit, ok-of, sound-of, here-of}
+use Rattle.edit.proofs.Joined.{joined-cong}
+use Rattle.edit.proofs.Places.{changed-same, l1-plain}
+use Rattle.table.specs.declared.Frame as code
+
+-- a form's entry fits a word
+pub form-encodes : (paw first pages : ℕ) (m : List ℕ) (q : Request) (low : q .permission < 4) (e : Entry) (g : Good (record { layout = rv64; paw = paw; first = first; pages = pages }) m e) (one : Bool) (p b : ℕ)
+    → p < 4 → Encodes (formIn (record { layout = rv64; paw = paw; first = first; pages = pages }) m q one p e b)
+unfolding formIn piecesInfo
+form-encodes paw first pages m q low e g true p b h = h
+form-encodes paw first pages m q low e g false p b h =
+    let F : Frame = record { layout = rv64; paw = paw; first = first; pages = pages } in
+    split (piecesAreOne F m q e b)
+    (λ z. rw z (pack-lt 4 _ (λ i. after-small paw first pages m q low e g _) 16 0))
+    (λ z. rw z tt)
+
+-- ---- the stores of a block, from two memories that have the same of it
+
+module _ (f : code.Frame) (m0 : List ℕ) (q : Request) (low : q .permission < 4) (root b : ℕ) (m : List ℕ) where
+  abbrev F₀ : Frame
+  F₀ = frameOf f m0
+
+  new-same : (e : Entry) (new : ℕ) → Plain e → newTable F₀ m q e b new ≡ newTable F₀ m0 q e b new
+  unfolding newTable
+  new-same e new pl =
+      joined-cong (λ i. storeAt F₀ new i (l1Word F₀ m q e b i) ∷ []) (λ i. storeAt F₀ new i (l1Word F₀ m0 q e b i) ∷ []) 512 0
+      (λ i lo hi. ap (λ (w : ℕ). storeAt F₀ new i w ∷ []) (l1-plain (f .paw) (f .first .0) m0 q low b m0 m e i pl))
+
+  link-same : (e : Entry) (new : ℕ) → Plain e → linkTable F₀ m q root e b new ≡ linkTable F₀ m0 q root e b new
+  unfolding linkTable
+  link-same e new pl = ap (λ (x : List Store). x ++ (storeL2 F₀ root b (encode rv64 (table new)) ∷ [])) (new-same e new pl)
+
+  pub stores-same : l2Word F₀ m root b ≡ l2Word F₀ m0 root b → (fm : Form) (e : Entry) (new : ℕ)
+      → ((t i : ℕ) → e ≡ table t → i < 512 → wordAt F₀ m t i ≡ wordAt F₀ m0 t i)
+      → blockStores F₀ m q root fm e b new ≡ blockStores F₀ m0 q root fm e b new
+  unfolding blockStores ifChangedL2 sameTable
+  stores-same same (wantFlat p) e new h = ap (λ (x : ℕ). if eqb x (encode rv64 (flat p)) then [] else storeL2 F₀ root b (encode rv64 (flat p)) ∷ []) same
+  stores-same same (wantPieces p) e new h = ap (λ (x : ℕ). if eqb x (encode rv64 (pieces p)) then [] else storeL2 F₀ root b (encode rv64 (pieces p)) ∷ []) same
+  stores-same same wantTable (table t) new h =
+      joined-cong (λ i. ifChanged F₀ m t i (l1Word F₀ m q (table t) b i)) (λ i. ifChanged F₀ m0 t i (l1Word F₀ m0 q (table t) b i)) 512 0
+      (λ i lo hi. changed-same (f .paw) (f .first .0) m0 q low b m0 m t i (omega arith) (h t i refl (omega arith)))
+  stores-same same wantTable (flat p) new h = link-same (flat p) new tt
+  stores-same same wantTable (pieces p) new h = link-same (pieces p) new tt
+  stores-same same wantTable invalid new h = link-same invalid new tt
+
+-- ---- what is known of an accepted edit
+
+pub record Facts (f : code.Frame) (m0 : List ℕ) (q : Request) (root : ℕ) (free : List ℕ) : Type 0 where
+  pub low : q .permission < 4
+  pub rs : List ℕ
+  pub ok : Ok (frameOf f m0)
+  pub sound : Sound (frameOf f m0) rs m0
+  pub here : times root rs ≡ 1
+  pub inside : firstGib q * 32 + gibs q * 32 ≤ blocks (frameOf f m0)
+  pub ends : q .start + q .size ≤ 2 ^ 34
+  pub some : 0 < q .size
+  pub unused : (x : ℕ) → 0 < times x free → (lent (frameOf f m0) x ≡ true) × (times x (pagesOf (frameOf f m0) rs) + times x (links (frameOf f m0) m0 rs) ≡ 0)
+  pub once : (x : ℕ) → times x free ≤ 1
+  pub room : newPages (frameOf f m0) m0 root (firstGib q * 32) (forms (frameOf f m0) m0 q root) ≤ length free
+  pub few : length free ≤ 2 ^ 22
+
+module _ (f : code.Frame) (m0 : List ℕ) (q : Request) (root : ℕ) (free : List ℕ) where
+  abbrev F : Frame
+  F = frameOf f m0
+
+  -- the pages of the front of a list are pages of the list
+  take-times : (n : ℕ) (x : ℕ) (l : List ℕ) → times x (take n l) ≤ times x l
+  take-times n x l = omega (arith, sym (times-append x (take n l) (drop n l)) ∙ ap (times x) (take-append-drop n l))
+
+  pub facts : Accepted F m0 q root free → Facts f m0 q root free
+  unfolding freePages space
+  facts a =
+      let k : Accept F (a .slots) q m0 = to-accept F (a .slots) q m0 (a .none) in
+      let E : Edit = record { F = F; lawful = rv64-lawful; slots = a .slots; q = q; low = a .small } in
+      let rs : List ℕ = roots F (a .slots) in
+      let taken : List ℕ = used F m0 rs in
+      let ok : Ok F = ok-of E m0 k in
+      let s : Sound F rs m0 = sound-of E m0 k in
+      let range = range-of F (a .slots) q m0 k in
+      let in-free : (x : ℕ) → times x free ≤ times x (freePages F m0 rs)
+      = λ x. subst (λ (fr : List ℕ). times x fr ≤ times x (freePages F m0 rs)) (sym (a .areFree)) (take-times 2 x (freePages F m0 rs)) in
+      let two : newPages F m0 (rootOf F (a .slots) q) (firstGib q * 32) (forms F m0 q (rootOf F (a .slots) q)) ≤ 2
+      = two-pages F ok q m0 (rootOf F (a .slots) q) (a .small) range rs s (root-in F (a .slots) q m0 k) (a .typed) in
+      let long : length free ≡ min 2 (length (freePages F m0 rs)) = ap (λ (l : List ℕ). length l) (a .areFree) ∙ length-take 2 (freePages F m0 rs) in
+      record {
+        low = a .small;
+        rs = rs;
+        ok = ok;
+        sound = s;
+        here = ap (λ (r : ℕ). times r rs) (a .isRoot) ∙ here-of E m0 k;
+        inside = touched-inside F q range ok;
+        ends = omega (arith, range .ends, pow-mono {i = f .paw} {j = 34} (ok .pawHigh));
+        some = range .some;
+        unused = λ x l. let g = free-in F taken x (omega (arith, in-free x)) in (g .0, sym (used-measure F (times x) (times-measure x) m0 rs) ∙ g .1);
+        once = λ x. omega (arith, in-free x, free-once F taken x);
+        room = subst (λ (r : ℕ). newPages F m0 r (firstGib q * 32) (forms F m0 q r) ≤ length free) (sym (a .isRoot)) (omega (arith, two, k .room, long));
+        few = omega (arith, long);
+      }
+
+  -- the list that the code makes is the model's
+  pub accepted-list : (a : Accepted F m0 q root free) → wholeList F m0 q root free ≡ storeList F m0 (a .slots) q
+  accepted-list a =
+      let k : Accept F (a .slots) q m0 = to-accept F (a .slots) q m0 (a .none) in
+      let E : Edit = record { F = F; lawful = rv64-lawful; slots = a .slots; q = q; low = a .small } in
+      ap₂ (λ (r : ℕ) (fr : List ℕ). wholeList F m0 q r fr) (a .isRoot) (a .areFree)
+      ∙ list-is F m0 (a .slots) q
+      (two-pages F (ok-of E m0 k) q m0 (rootOf F (a .slots) q) (a .small) (range-of F (a .slots) q m0 k) (roots F (a .slots)) (sound-of E m0 k) (root-in F (a .slots) q m0 k) (a .typed))
+
+  pub root-lent : Accepted F m0 q root free → lent F root ≡ true
+  unfolding entryPage
+  root-lent a = let k = facts a in page-lent F (k .ok) (k .rs) m0 (k .sound) root 0 (omega (arith, k .here)) (blocks-pos F (k .ok))
+
+  pub bounds-in : Accepted F m0 q root free → boundsOk F ≡ true
+  unfolding frameOk
+  bounds-in a = and-true (boundsOk F) _ (to-accept F (a .slots) q m0 (a .none) .frame) .0
