@@ -39,6 +39,12 @@ Lies q s n Inside = (k : ℕ) → s ≤ k → k < s + n → model.inRange q k �
 Lies q s n Outside = (k : ℕ) → s ≤ k → k < s + n → model.inRange q k ≡ false
 Lies q s n Across = Unit {0}
 
+-- r of the 16 numbers from s lie below end
+pub record Cut (end s r : ℕ) : Type 0 where
+  pub few : r ≤ 16
+  pub below : r ≤ end - s
+  pub past : r < 16 → end ≤ s + r
+
 -- no page of block b lies in the range below its L1 entry n; and none from that entry on
 abbrev pub Below : model.Request → ℕ → ℕ → Type 0
 Below q b n = (k : ℕ) → k < b * 8192 + n * 16 → b * 8192 ≤ k → model.inRange q k ≡ false
