@@ -75,6 +75,11 @@ pub pack-const : (p s : ℕ) → pack 16 (λ k. p) 16 s ≡ p * 0x1111_1111_1111
 unfolding pack
 pack-const p s = omega arith
 
+-- and a TYPE 6 entry's INFO
+pub pack4-const : (p s : ℕ) → p * 0x5555_5555 ≡ pack 4 (λ k. p) 16 s
+unfolding pack
+pack4-const p s = omega arith
+
 -- ---- a number put together from its highest digit down
 
 module _ (base : ℕ) (f : ℕ → ℕ) where

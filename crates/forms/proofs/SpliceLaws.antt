@@ -8,7 +8,7 @@ use Rattle.laws.proofs.Digits.{digit-pack}
 use Rattle.laws.proofs.Splices.{spliced, band-pack}
 use Rattle.model.specs.Forms.{Request, inRange}
 use Rattle.model.specs.Numbers.{if_then_else_, digit, pack}
-use Rattle.forms.proofs.Fields.{pow-times, in-true, below-false, above-false, pack-const, outside}
+use Rattle.forms.proofs.Fields.{pow-times, in-true, below-false, above-false, pack-const, pack4-const, outside}
 
 -- a splice at a digit of c bits
 pub splice-bits : (c k x y : ℕ) → spliced 2 (c * k) x y ≡ spliced (2 ^ c) k x y
@@ -17,6 +17,10 @@ splice-bits c k x y = ap (λ (p : ℕ). x % p + y / p * p) (pow-times 2 c k)
 -- each field of an L1 entry of one permission
 pub spread-digit : (p i : ℕ) → p < 16 → i < 16 → digit 16 (spreadOf p) i ≡ p
 spread-digit p i low h = ap (λ (w : ℕ). digit 16 w i) (sym (pack-const p 0)) ∙ digit-pack 16 (λ k. p) (λ k. low) 16 0 i h
+
+-- and each piece of an INFO of one permission
+pub flat-digit : (p i : ℕ) → p < 4 → i < 16 → digit 4 (p * 0x5555_5555) i ≡ p
+flat-digit p i low h = ap (λ (x : ℕ). digit 4 x i) (pack4-const p 0) ∙ digit-pack 4 (λ k. p) (λ k. low) 16 0 i h
 
 -- the 16 pages from s, of which those from lo to hi lie in the range
 module _ (q : Request) (s lo hi : ℕ) (from : Cut ((q .start + 4095) / 4096) s lo) (to : Cut ((q .start + q .size + 4095) / 4096) s hi) where

@@ -2,7 +2,7 @@
 use mathlib.Core.Path.{_≡_}
 use mathlib.Core.Bool.{Bool, true, false}
 use mathlib.Core.List.{List}
-use Prim.Native.Nat.{ℕ, _+_, _-_, _*_, _/_, _≤_, _<_, _^_}
+use Prim.Native.Nat.{ℕ, _+_, _-_, _*_, _/_, _%_, _≤_, _<_, _^_}
 use Rattle.model.specs.Numbers.{if_then_else_, digit}
 use Rattle.model.specs.Layout.{gibBlocks}
 use Rattle.model.specs.Entry as entry
@@ -66,6 +66,15 @@ oldWord F m entry.invalid i = 0
 -- the permission of page k, once the edit is whole, by an L1 entry as it stands, whose first page is s
 abbrev pub mixedAt : model.Request → ℕ → ℕ → ℕ → ℕ
 mixedAt q old s k = if model.inRange q k then q .permission else digit 16 old (k - s)
+
+-- before the edit each page of block b, whose entry is e, is of the permission that info has for its piece
+abbrev pub Even : frame.Frame → List ℕ → entry.Entry → ℕ → ℕ → Type 0
+Even F m e b info = (i k : ℕ) → i < 16 → b * 8192 + i * 512 ≤ k → k < b * 8192 + i * 512 + 512 → model.permOf (walk.found F m e k) ≡ digit 4 info i
+
+-- the page at cuts a piece of block b, with pages on both sides, that by info has another permission than the asked one
+abbrev pub Mixes : model.Request → ℕ → ℕ → ℕ → Bool → Type 0
+Mixes q b info at true = (0 < at % 512) × (at / 8192 ≡ b) × (digit 4 info (at / 512 % 16) ≡ q .permission → ⊥)
+Mixes q b info at false = (i : ℕ) → i < 16 → b * 8192 + i * 512 < at → at < b * 8192 + i * 512 + 512 → digit 4 info i ≡ q .permission
 
 -- what piece says is so of piece i of block b, whose entry is e
 abbrev pub PieceIs : frame.Frame → List ℕ → model.Request → entry.Entry → ℕ → ℕ → Piece → Type 0
