@@ -6,11 +6,11 @@ use Prim.Native.Nat.{ℕ, _+_, _*_, _-_, _/_, _%_, _^_, _≤_, _<_}
 use native.Mathlib.Nat.{zero-add}
 use native.Mathlib.Omega.{arith}
 use lib.Dec.{eqb, leb, ltb}
-use borrow.Author.Tests.{eqb-true, leb-true, leb-false, ltb-true, ltb-false}
+use borrow.Author.Tests.{eqb-true, eqb-false, eq-eqb, leb-true, leb-false, ltb-true, ltb-false}
 use Rattle.forms.specs.Kinds.{Cut, Even, Mixes}
 use Rattle.laws.proofs.Choices.{split, and-true}
-use Rattle.laws.proofs.Digits.{pack-cong, digit-pack}
-use Rattle.laws.proofs.Every.{every-in}
+use Rattle.laws.proofs.Digits.{pack-cong}
+use Rattle.laws.proofs.Every.{every-all, every-in}
 use Rattle.laws.proofs.Splices.{spliced, splice-below, band-pack}
 use Rattle.model.specs.Entry.{Entry, flat, pieces}
 use Rattle.model.specs.Forms.{Request, inRange, permOf, afterIn, allAre, wantPieces, wantTable, formIn}
@@ -19,7 +19,7 @@ use Rattle.model.specs.Layout.{rv64}
 use Rattle.model.specs.Numbers.{every, digit, pack}
 use Rattle.model.specs.Walk.{found, pieceOf}
 use Rattle.theory.specs.Rooted.{Good}
-use Rattle.forms.proofs.Fields.{in-true, below-false, above-false, every-fail}
+use Rattle.forms.proofs.Fields.{in-true, below-false, above-false, every-fail, pack4-const}
 use Rattle.forms.proofs.FormLaws.{firstOf, isOne, form-table, known-form, info-pack}
 use Rattle.forms.proofs.SpliceLaws.{flat-digit}
 
@@ -122,6 +122,25 @@ module _ (paw first pages : ℕ) (m : List ℕ) (q : Request) (low : q .permissi
         let at : ℕ = (q .start + q .size + 4095) / 4096 in
         even-mixed (at / 512 % 16) (at - 1) at (omega arith) (omega arith) (omega arith) (omega arith) (omega arith)
         (in-true q (at - 1) (omega arith) (omega arith)) (above-false q at (omega arith)) (d .2)
+
+  -- outside the range: are all pages of the block of permission p?
+  pub even-is : (p : ℕ) → p < 4 → ((k : ℕ) → b * 8192 ≤ k → k < b * 8192 + 8192 → inRange q k ≡ false) → eqb info (p * 0x5555_5555) ≡ allAre F m q e p 8192 (b * 8192)
+  unfolding allAre
+  even-is p hp out =
+      let test : ℕ → Bool = λ k. eqb (afterIn F m q e k) p in
+      split (eqb info (p * 0x5555_5555))
+      (λ z. z ∙ sym (every-all test 8192 (b * 8192) (λ k l.
+      eq-eqb (afterIn F m q e (b * 8192 + k)) p
+      (outside (k / 512) (b * 8192 + k) (omega arith) (omega arith) (omega arith) (out (b * 8192 + k) (omega arith) (omega arith))
+      ∙ ap (λ (x : ℕ). digit 4 x (k / 512)) (eqb-true _ _ z) ∙ flat-digit p (k / 512) hp (omega arith)))))
+      (λ z. split (every test 8192 (b * 8192))
+      (λ y. absurd (eqb-false _ _ z
+      (info-pack info fits
+      ∙ pack-cong 4 (digit 4 info) (λ i. p) 16 0 (λ i l u.
+      sym (outside i (b * 8192 + i * 512) (omega arith) (omega arith) (omega arith) (out (b * 8192 + i * 512) (omega arith) (omega arith)))
+      ∙ eqb-true _ _ (every-in test 8192 (b * 8192) y (b * 8192 + i * 512) (omega arith) (omega arith)))
+      ∙ sym (pack4-const p 0))))
+      (λ y. z ∙ sym y))
 
 -- ---- the two entries that have no L1 page
 
