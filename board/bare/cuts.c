@@ -5,7 +5,7 @@
 void every_cut(void)
 {
     static struct store list[MOST_STORES];
-    static char name[] = "case C, reset after k stores";
+    static char name[] = "case C, cut";
     struct kept *kept = KEPT;
     watched.call = name;
     if (kept->pending) {
@@ -13,6 +13,7 @@ void every_cut(void)
         name[5] = case_names[kept->nth];
         kept->resets++;
         kept->pending = 0;
+        watched.count = 0;
         same_words(whole->before, whole->list, kept->step);
         uint64_t count = second_edit(&bench, &case_edits[kept->nth], list);
         trapped_edit(kept->nth, list, count, NEVER, 0);

@@ -16,6 +16,10 @@ void fail(const char *fact, uint64_t number, const char *more, uint64_t other)
 {
     say("FAIL ");
     say(watched.call);
+    if (KEPT->resets) {
+        say(", reset ");
+        say_number(KEPT->resets);
+    }
     if (watched.made < watched.count) {
         say(", store ");
         say_number(watched.made + 1);

@@ -32,8 +32,8 @@ static void check_cut(int nth)
     for (uint64_t k = 0; k < count; k++)
         if (TABLE[list[k].at] == list[k].word && KEPT->found[list[k].at] != list[k].word)
             seen = k + 1;
-    same_words(KEPT->found, list, seen);
     KEPT->resets++;
+    same_words(KEPT->found, list, seen);
     if (seen > 0 && seen < count)
         KEPT->middle++;
 }

@@ -102,7 +102,7 @@ static void gib(struct lister *lister, uint64_t number)
     }
 }
 
-size_t second_edit(const struct table *table, const struct edit *edit, struct store *list)
+size_t second_edit(const struct table *table, const struct edit *edit, struct store list[MOST_STORES])
 {
     static _Alignas(8) uint8_t after[GIB_BLOCKS * BLOCK_PAGES];
     uint64_t root = table->slots[edit->slot] & ((UINT64_C(1) << 44) - 1);
@@ -113,7 +113,7 @@ size_t second_edit(const struct table *table, const struct edit *edit, struct st
 }
 
 /* "Takes the lowest free page, zeroes it." */
-size_t second_open(const struct table *table, struct store *list)
+size_t second_open(const struct table *table, struct store list[PAGE_ENTRIES])
 {
     struct lister lister = {table, NULL, list, 0, 0, table->first, NULL};
     uint64_t page = next_new_page(&lister);

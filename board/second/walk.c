@@ -22,7 +22,7 @@ static void walk_page(const struct table *table, uint64_t page, uint8_t *reads)
     }
 }
 
-void second_walk(const struct table *table, uint64_t mmpt, uint64_t block, uint8_t *reads)
+void second_walk(const struct table *table, uint64_t mmpt, uint64_t block, uint8_t reads[BLOCK_PAGES])
 {
     uint64_t root = mmpt & ((UINT64_C(1) << 44) - 1);
     uint64_t entry = is_lent(table, root) ? word_of(table, root, block) : ~UINT64_C(0);
