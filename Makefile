@@ -6,6 +6,7 @@ SHELL := /bin/bash
 library := $(CURDIR)/target/board/libmpt-x86_64.a
 unmarked := $(CURDIR)/target/staticlib/libapi.a
 export MPT_LIBRARY := $(library)
+export MPT_UNMARKED := $(CURDIR)/target/board/libmpt-unmarked-x86_64.a
 export CARGO_TARGET_DIR := $(CURDIR)/target/host
 mpt := target/host/release/mpt
 
