@@ -1,7 +1,7 @@
 # make run: the main job. make test: the whole gate. make board: the libraries that firmware links, and the tests of their stores.
 SHELL := /bin/bash
 .SHELLFLAGS := -o pipefail -c
-.PHONY: run test command host board
+.PHONY: run test command host board fuzz
 
 library := $(CURDIR)/target/board/libmpt-x86_64.a
 unmarked := $(CURDIR)/target/staticlib/libapi.a
@@ -49,3 +49,8 @@ host: command
 	@$(mpt) cases >/dev/null
 	@$(mpt) run --both examples/cradles.mpt >/dev/null
 	@$(mpt) test --count 200000
+
+# optional: calls with any values whatever, for SECONDS seconds
+SECONDS := 60
+fuzz: command
+	@$(mpt) fuzz --seconds $(SECONDS)

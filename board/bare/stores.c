@@ -1,10 +1,12 @@
 /* Cases C, F, G and H and the open before them, whole, with every store trapped; the calls that store nothing; the stack that each needs. */
 #include "test.h"
 
-/* "L2 entry 32 is ..": numbers that document 01 gives, or that follow from its cases by hand. */
+/* The numbers of document 01's cases, and what follows from them by hand. */
 static const uint64_t counts[CASES] = {544, 1, 32, 32};
 static const uint64_t free_after[CASES] = {14, 14, 15, 15};
 static const int begins_after[CASES] = {-1, 0, 0, 2};
+/* docs/BOARD.md promises that no call takes more. */
+enum { MOST_STACK = 4096 };
 /* What a page holds that was never written by the monitor: rwx, if it were taken for an L1 page. */
 #define OLD UINT64_C(0x3333333333333333)
 
@@ -76,6 +78,8 @@ static void say_stack(void)
         say(names[which]);
         put(' ');
         say_number(deepest[which]);
+        if (deepest[which] > MOST_STACK)
+            fail("takes more stack than docs/BOARD.md says: ", deepest[which], ", at most ", MOST_STACK);
     }
     put('\n');
 }

@@ -12,7 +12,10 @@ fn main() {
     if let (true, Some(library)) = (proved, env::var_os("MPT_UNMARKED").map(PathBuf::from)) {
         let folder = PathBuf::from(env::var_os("OUT_DIR").expect("cargo sets OUT_DIR"));
         if let Err(error) = fs::copy(&library, folder.join("libmpt_unmarked.a")) {
-            println!("cargo::error=MPT_UNMARKED={}: {error}; it must be the full path of a static library", library.display());
+            println!(
+                "cargo::error=MPT_UNMARKED={}: {error}; it must be the full path of a static library",
+                library.display()
+            );
             process::exit(0);
         }
         println!("cargo::rerun-if-changed={}", library.display());

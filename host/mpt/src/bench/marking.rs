@@ -12,7 +12,10 @@ const UNMARKED: Option<Program> = None;
 /// Each edit, marked beside unmarked, beyond the whole-table check; nothing if the library is not here.
 pub fn edits(subject: Program, rounds: usize, ratios: &mut Ratios) -> Result<(), String> {
     let Some(unmarked) = UNMARKED.filter(|_| subject.name == "proved") else { return Ok(()) };
-    crate::output::line(format!("\n{:<56} {:>12} {:>12} {:>7}", "beyond the whole-table check", "marked", "unmarked", "ratio"));
+    crate::output::line(format!(
+        "\n{:<56} {:>12} {:>12} {:>7}",
+        "beyond the whole-table check", "marked", "unmarked", "ratio"
+    ));
     for work in work::edits() {
         let row = measured(&work, subject, unmarked, rounds)?;
         line(work.name, work.what, row.beyond);
