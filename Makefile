@@ -1,11 +1,12 @@
-# make run: the main job. make test: the whole gate. make board: the libraries that firmware links, and the trace of their stores.
+# make run: the main job. make test: the whole gate. make board: the libraries that firmware links, and the tests of their stores.
 SHELL := /bin/bash
 .SHELLFLAGS := -o pipefail -c
-.PHONY: run test command host board
+.PHONY: run test command host board fuzz
 
 library := $(CURDIR)/target/board/libmpt-x86_64.a
 unmarked := $(CURDIR)/target/staticlib/libapi.a
 export MPT_LIBRARY := $(library)
+export MPT_UNMARKED := $(CURDIR)/target/board/libmpt-unmarked-x86_64.a
 export CARGO_TARGET_DIR := $(CURDIR)/target/host
 mpt := target/host/release/mpt
 
@@ -29,12 +30,16 @@ command:
 	@board/build
 	@cd host && cargo build --release --quiet --features proved
 
-# a trace of the stores that the library makes; the one with unmarked stores must be refused
+# a trace of the stores that the library makes on x86-64; the RISC-V one's assembly, its answers, and its stores on an emulated board.
+# Libraries with wrong or unmarked stores must be refused
 board: command
-	@tools/need valgrind
+	@tools/need --lean valgrind qemu-riscv64:qemu-user qemu-system-riscv64:qemu-system-misc
 	@board/trace/test $(library)
 	@if board/trace/test $(unmarked) >target/board/unmarked.log 2>&1; then echo "trace: unmarked stores were not refused" >&2; exit 1; fi
 	@echo "trace: unmarked stores are refused: $$(tail -n 1 target/board/unmarked.log | tr -s '[:space:]' ' ')"
+	@board/assembly/test
+	@board/user/test
+	@board/bare/test
 
 # the host side's own tests, a C program against the header alone, and random calls on all programs
 host: command
@@ -44,3 +49,8 @@ host: command
 	@$(mpt) cases >/dev/null
 	@$(mpt) run --both examples/cradles.mpt >/dev/null
 	@$(mpt) test --count 200000
+
+# optional: calls with any values whatever, for SECONDS seconds
+SECONDS := 60
+fuzz: command
+	@$(mpt) fuzz --seconds $(SECONDS)

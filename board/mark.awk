@@ -2,7 +2,8 @@
 #   - checks that the function named in `table` stores through a reference by exactly one aligned 8-byte store, that the functions named
 #     in `marks` store single bytes alone, and that every other store of the module goes to a local of its own function or to the place
 #     of its own result;
-#   - writes the module with the table's store marked as `how` says.
+#   - writes the module with the table's store marked as `how` says; for riscv64, with every function inside the exported ones, so that
+#     each local lies in the frame of an exported function and assembly/fences.awk can tell the stack's stores by their address.
 # Usage: awk -v table=table::store::store_word [-v marks='f g'] [-v how='..'] [-v target=riscv64] -f mark.awk module.ll >marked.ll
 # A pointer is a reference unless the function's text shows that it leads to a local (an alloca). The search takes no account of order,
 # and what it does not know it refuses.
@@ -87,6 +88,8 @@ target == "riscv64" && /^attributes / { gsub(/ "(probe-stack|target-cpu)"="[^"]*
 /^define / {
     name = $0; sub(/^[^@]*@/, "", name)
     if (name ~ /^"/) { name = substr(name, 2); sub(/".*/, "", name) } else sub(/\(.*/, "", name)
+    # a pointer from C is aligned to 8 bytes, as mpt.h asks: RISC-V would read a slot byte by byte otherwise
+    if (target == "riscv64") { if (/^define internal /) sub(/( #[0-9]+)? \{$/, " alwaysinline&"); else gsub(/ptr noundef/, "ptr noundef align 8") }
     inside = 1; n = 0; print; next
 }
 inside && /^}/ { inside = 0; analyse(); for (k = 1; k <= n; k++) print line[k]; print; next }

@@ -3,6 +3,7 @@
 mod bench;
 mod cases;
 mod command;
+mod fuzz;
 mod image;
 mod map;
 mod options;
@@ -26,6 +27,7 @@ fn main() -> ExitCode {
         "map" => map::main(options),
         "test" => test::main(options),
         "bench" => bench::main(options),
+        "fuzz" => fuzz::main(options),
         "help" | "--help" | "-h" => help(),
         "" => Err("what shall be done? See `mpt help`".to_string()),
         other => Err(format!("no command `{other}`; see `mpt help`")),

@@ -1,5 +1,6 @@
 //! `mpt bench`: the proved program beside ordinary safe Rust, in the same run.
 
+mod marking;
 mod measure;
 mod work;
 
@@ -27,6 +28,7 @@ pub fn main(mut options: Options) -> Result<u8, String> {
     let mut ratios = Vec::new();
     calls(subject, rounds, &mut ratios)?;
     edits(subject, rounds, &mut ratios)?;
+    marking::edits(subject, rounds, &mut ratios)?;
     ratios.iter().for_each(|(name, ratio)| output::line(format!("ratio {name} {ratio:.3}")));
     Ok(0)
 }
@@ -44,7 +46,7 @@ fn calls(subject: Program, rounds: usize, ratios: &mut Ratios) -> Result<(), Str
         ("close", work::close(), PLAIN),
     ];
     for (name, work, yardstick) in works {
-        let row = row(&work, subject, yardstick, rounds)?;
+        let row = measured(&work, subject, yardstick, rounds)?;
         line(name, work.what, row.call);
         ratios.push((name.to_string(), row.ratio()));
     }
@@ -54,7 +56,7 @@ fn calls(subject: Program, rounds: usize, ratios: &mut Ratios) -> Result<(), Str
 /// The edits: the whole call, and without the whole-table check that both make.
 fn edits(subject: Program, rounds: usize, ratios: &mut Ratios) -> Result<(), String> {
     for work in work::edits() {
-        let row = row(&work, subject, PLAIN, rounds)?;
+        let row = measured(&work, subject, PLAIN, rounds)?;
         line(work.name, work.what, row.call);
         line("", "  beyond the whole-table check", row.beyond);
         ratios.push((work.name.to_string(), row.ratio_beyond()));
@@ -63,7 +65,7 @@ fn edits(subject: Program, rounds: usize, ratios: &mut Ratios) -> Result<(), Str
     Ok(())
 }
 
-fn row(work: &Work, subject: Program, yardstick: Program, rounds: usize) -> Result<Row, String> {
+fn measured(work: &Work, subject: Program, yardstick: Program, rounds: usize) -> Result<Row, String> {
     work::check_agreement(work, subject, yardstick)?;
     Ok(measure(work, subject.interface, yardstick.interface, rounds, &clock()))
 }

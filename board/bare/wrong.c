@@ -1,0 +1,42 @@
+/* A stand-in for mpt_edit that makes the stores of document 01's list, as the second program gives it, and answers as it should; wrong in
+ * one way alone, by WRONG, and with WRONG 0 in none. It is linked over the library by --wrap. */
+#include "test.h"
+
+static void store(const struct store *store)
+{
+#if WRONG == 2 /* two stores of 4 bytes */
+    ((volatile uint32_t *)(TABLE + store->at))[0] = (uint32_t)store->word;
+    ((volatile uint32_t *)(TABLE + store->at))[1] = store->word >> 32;
+#else
+    *(volatile uint64_t *)(TABLE + store->at) = store->word;
+#endif
+}
+
+/* The new page of case C: entries 0 to 511 of the list, and 512 links it. */
+static uint64_t place(uint64_t k, uint64_t count)
+{
+    if (count < PAGE_ENTRIES)
+        return k;
+#if WRONG == 1 /* linked first */
+    return k == 0 ? PAGE_ENTRIES : k <= PAGE_ENTRIES ? k - 1 : k;
+#elif WRONG == 3 /* from the top down */
+    return k < PAGE_ENTRIES ? PAGE_ENTRIES - 1 - k : k;
+#else
+    return k;
+#endif
+}
+
+uint64_t __wrap_mpt_edit(uint64_t paw, uint64_t first, uint64_t *words, size_t size, const uint64_t slots[8], uint64_t slot, uint64_t start,
+                         uint64_t length, uint64_t permission, uint64_t limit)
+{
+    (void)paw, (void)first, (void)words, (void)size, (void)slots, (void)limit;
+    struct edit edit = {slot, start, length, permission};
+    for (uint64_t k = 0; k < watched.count; k++) {
+        if (WRONG == 4 && k == 99) /* one word left out */
+            continue;
+        store(&watched.list[place(k, watched.count)]);
+        if (WRONG == 5 && k == 99) /* one word twice */
+            store(&watched.list[k]);
+    }
+    return 256 | 1 << 9 | fence_of(&edit, watched.list, watched.count) << 10 | SDID << 12 | watched.count << 18;
+}

@@ -1,0 +1,34 @@
+/* Document 01 once more, in C and from the paper alone: how addresses read, which pages are free, and which stores a call makes, in
+ * their order. What the library does on the board is compared with it. For sound tables; refusals are not here. */
+#include <stddef.h>
+#include <stdint.h>
+
+enum { PAGE = 4096, PAGE_ENTRIES = 512, BLOCK_PAGES = 8192, GIB_BLOCKS = 32, MOST_STORES = 1536 };
+
+/* Beside the four permissions as document 01 numbers them: a walk that faults. */
+enum { FAULT = 4 };
+
+struct table {
+    uint64_t paw, first, pages;
+    const uint64_t *words;
+    const uint64_t *slots;
+};
+
+/* One store: which word of the lent memory, what it gets, and for which block it is made. */
+struct store {
+    uint64_t at, word, block;
+};
+
+struct edit {
+    uint64_t slot, start, length, permission;
+};
+
+/* "The walk", outside M mode, for every page of a block: its permission, or FAULT. */
+void second_walk(const struct table *table, uint64_t mmpt, uint64_t block, uint8_t reads[BLOCK_PAGES]);
+
+int second_page_is_free(const struct table *table, uint64_t page);
+uint64_t second_free_pages(const struct table *table);
+
+/* The ordered stores of a whole call; how many. */
+size_t second_open(const struct table *table, struct store list[PAGE_ENTRIES]);
+size_t second_edit(const struct table *table, const struct edit *edit, struct store list[MOST_STORES]);

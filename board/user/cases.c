@@ -1,0 +1,180 @@
+/* The bench cases of document 01, A to K, by the library alone. One line for each answer; the expected ones are the paper's own numbers, or
+ * follow from its text by hand. `bench_cases` returns how many were wrong. */
+#include "mpt.h"
+#include "say.h"
+#include "second.h"
+
+#include <string.h>
+
+enum { PAW = 32, FIRST = 0x80000, PAGES = 16, LIMIT = 1536 };
+static uint64_t words[PAGES * PAGE_ENTRIES], slots[8];
+static size_t count;
+static uint64_t wrong;
+
+static void expect(const char *what, uint64_t got, uint64_t want)
+{
+    say(what);
+    say(": ");
+    say_hex(got);
+    if (got != want) {
+        wrong++;
+        say(" WRONG, document 01 says ");
+        say_hex(want);
+    }
+    put('\n');
+}
+
+/* A number that stands for every word and slot: the same on every machine. */
+static void memory(const char *after)
+{
+    uint64_t sum = UINT64_C(0xcbf29ce484222325);
+    for (size_t k = 0; k < count; k++)
+        sum = (sum ^ words[k]) * UINT64_C(0x100000001b3);
+    for (int k = 0; k < 8; k++)
+        sum = (sum ^ slots[k]) * UINT64_C(0x100000001b3);
+    say(after);
+    say(": memory ");
+    say_hex(sum);
+    put('\n');
+}
+
+/* "Slot 0 opened with SDID 5"; the free pages hold something, as they do on a board. */
+static void new_domain(size_t pages)
+{
+    count = pages * PAGE_ENTRIES;
+    memset(words, 0x33, sizeof words);
+    memset(slots, 0, sizeof slots);
+    slots[0] = mpt_open(PAW, FIRST, words, count, slots, 0, 5);
+}
+
+static uint64_t look(uint64_t kind, uint64_t address)
+{
+    return mpt_lookup(PAW, FIRST, words, count, slots[0], MPT_SUPERVISOR, kind, address);
+}
+
+static uint64_t edit(uint64_t start, uint64_t length, uint64_t permission, uint64_t limit)
+{
+    return mpt_edit(PAW, FIRST, words, count, slots, 0, start, length, permission, limit);
+}
+
+static uint64_t page(uint64_t start, uint64_t permission)
+{
+    return edit(start, 0x1000, permission, LIMIT);
+}
+
+static void made(const char *what, uint64_t answer, uint64_t stores, int all, uint64_t fence)
+{
+    say(what);
+    put('\n');
+    expect("  refused", mpt_refused(answer), 0);
+    expect("  stores", mpt_stores(answer), stores);
+    expect("  all", mpt_all(answer), all);
+    expect("  fence", mpt_fence(answer), fence);
+    if (fence != MPT_FENCE_NONE)
+        expect("  of SDID", mpt_fence_sdid(answer), 5);
+}
+
+static void entries(const char *what, int from, int to, uint64_t want)
+{
+    for (int entry = from; entry <= to; entry++)
+        if (words[entry] != want || entry == to) {
+            expect(what, words[entry], want);
+            return;
+        }
+}
+
+static void free_pages(const char *what, uint64_t want)
+{
+    struct table table = {PAW, FIRST, count / PAGE_ENTRIES, words, slots};
+    expect(what, second_free_pages(&table), want);
+}
+
+static void cases_a_to_e(void)
+{
+    new_domain(PAGES);
+    expect("open: register", slots[0], UINT64_C(0x1140000000080000));
+    expect("A: load", look(MPT_LOAD, 0x40000000), MPT_LOAD_FAULT);
+    made("B: rw at 0x40123000", page(0x40123000, MPT_RW), 544, 1, MPT_FENCE_DOMAIN);
+    expect("B: L2 entry 32", words[32], UINT64_C(0x0000400000080001));
+    expect("B: L1 entry 18, field 3", words[512 + 18], 0x2000);
+    memory("B");
+    new_domain(PAGES);
+    made("D: limit 512", edit(0x40000000, 0x1000, MPT_RW, 512), 512, 0, MPT_FENCE_DOMAIN);
+    expect("D: load", look(MPT_LOAD, 0x40000000), MPT_LOAD_FAULT);
+    new_domain(PAGES);
+    made("D: limit 513", edit(0x40000000, 0x1000, MPT_RW, 513), 513, 0, MPT_FENCE_DOMAIN);
+    expect("D: load", look(MPT_LOAD, 0x40000000), MPT_FINE);
+    expect("D: load at 0x40001000", look(MPT_LOAD, 0x40001000), MPT_LOAD_FAULT);
+    made("D: C again", page(0x40000000, MPT_RW), 31, 1, MPT_FENCE_DOMAIN);
+    memory("D");
+    new_domain(PAGES);
+    made("C: rw at 0x40000000", page(0x40000000, MPT_RW), 544, 1, MPT_FENCE_DOMAIN);
+    expect("C: L2 entry 32", words[32], UINT64_C(0x0000400000080001));
+    entries("C: L2 entries 33 to 63", 33, 63, UINT64_C(0x0000600000000000));
+    memory("C");
+    expect("E: store", look(MPT_STORE, 0x40000fff), MPT_FINE);
+    expect("E: fetch", look(MPT_FETCH, 0x40000fff), MPT_FETCH_FAULT);
+    expect("E: page-table read for a store", look(MPT_WALK_STORE, 0x40001000), MPT_STORE_FAULT);
+}
+
+static void cases_f_to_h(void)
+{
+    expect("F: L1 entry 0 before", words[512], 0x2);
+    made("F: rx at 0x40003000", page(0x40003000, MPT_RX), 1, 1, MPT_FENCE_ADDRESS);
+    expect("F: L1 entry 0", words[512], 0x1002);
+    memory("F");
+    new_domain(PAGES);
+    page(0x40000000, MPT_RW);
+    made("G: rw over a GiB", edit(0x40000000, 0x40000000, MPT_RW, LIMIT), 32, 1, MPT_FENCE_DOMAIN);
+    entries("G: L2 entries 32 to 63", 32, 63, UINT64_C(0x0000200000000000));
+    free_pages("G: free pages", 15);
+    memory("G");
+    made("H: none over 2 MiB", edit(0x40200000, 0x200000, MPT_NONE, LIMIT), 32, 1, MPT_FENCE_DOMAIN);
+    expect("H: L2 entry 32", words[32], UINT64_C(0x00006000AAAAAAA2));
+    entries("H: L2 entries 33 to 63", 33, 63, UINT64_C(0x00006000AAAAAAAA));
+    memory("H");
+}
+
+static void cases_i_to_k(void)
+{
+    new_domain(PAGES);
+    made("I: rw at the top", page(0xfffff000, MPT_RW), 544, 1, MPT_FENCE_DOMAIN);
+    expect("I: rw past the top", edit(0xfffff000, 0x2000, MPT_RW, LIMIT), MPT_BAD_RANGE);
+    expect("I: load past the top", look(MPT_LOAD, 0x100000000), MPT_LOAD_FAULT);
+    memory("I");
+    new_domain(PAGES);
+    expect("J: rw on a lent page", page(0x8000f000, MPT_RW), MPT_MEETS_LENT);
+    made("J: rw beside the lent pages", page(0x80010000, MPT_RW), 544, 1, MPT_FENCE_DOMAIN);
+    made("J: none on a lent page", page(0x8000f000, MPT_NONE), 0, 1, MPT_FENCE_NONE);
+    memory("J");
+    new_domain(2);
+    made("K: rw at 0x40000000", page(0x40000000, MPT_RW), 544, 1, MPT_FENCE_DOMAIN);
+    expect("K: rw at 0x42000000", page(0x42000000, MPT_RW), MPT_NO_FREE_PAGE);
+    made("K: none at 0x40000000", page(0x40000000, MPT_NONE), 32, 1, MPT_FENCE_DOMAIN);
+    made("K: rw at 0x42000000 again", page(0x42000000, MPT_RW), 544, 1, MPT_FENCE_DOMAIN);
+    memory("K");
+}
+
+static void other_calls(void)
+{
+    expect("check", mpt_sound(PAW, FIRST, words, count, slots), MPT_FINE);
+    expect("check of a broken frame", mpt_sound(29, FIRST, words, count, slots), MPT_BAD_FRAME);
+    expect("a privilege that is none", mpt_lookup(PAW, FIRST, words, count, 0, 2, MPT_LOAD, 0), MPT_OUTSIDE_KIND);
+    expect("a permission that is none", page(0, 4), MPT_OUTSIDE_KIND);
+    expect("open a slot in use", mpt_open(PAW, FIRST, words, count, slots, 0, 6), MPT_BAD_SLOT);
+    uint64_t answer = mpt_close(PAW, FIRST, words, count, slots, 0);
+    expect("close: fence", mpt_fence(answer), MPT_FENCE_DOMAIN);
+    expect("close: of SDID", mpt_fence_sdid(answer), 5);
+    words[32] = UINT64_C(5) << 44;
+    expect("check of a TYPE 5 entry", mpt_sound(PAW, FIRST, words, count, slots), MPT_NOT_SOUND);
+    memory("other calls");
+}
+
+uint64_t bench_cases(void)
+{
+    cases_a_to_e();
+    cases_f_to_h();
+    cases_i_to_k();
+    other_calls();
+    return wrong;
+}
