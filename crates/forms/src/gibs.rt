@@ -96,7 +96,7 @@ pub fn new_page(f: Frame, words: &[u64], q: Request, root: PageNumber, b: u64) -
 // How many new pages the whole edit takes: only the blocks at the two ends of the range can take one.
 pub fn new_pages(f: Frame, words: &[u64], q: Request, root: PageNumber) -> u64
     requires { ⌜ Ranged (frameOf f (now words)) (now words) (requestOf q) (root .0) ⌝ }
-    ensures { λ r. ⌜ r ≡ wholePages (frameOf f (now (words .entry))) (now (words .entry)) (requestOf q) (root .0) ⌝ }
+    ensures { λ r. ⌜ (r ≡ wholePages (frameOf f (now (words .entry))) (now (words .entry)) (requestOf q) (root .0)) × (r ≤ 2) ⌝ }
 {
     let low = q.start.0 / 0x200_0000;
     let high = (q.start.0 + q.size - 1) / 0x200_0000;
