@@ -39,6 +39,11 @@ Lies q s n Inside = (k : ℕ) → s ≤ k → k < s + n → model.inRange q k �
 Lies q s n Outside = (k : ℕ) → s ≤ k → k < s + n → model.inRange q k ≡ false
 Lies q s n Across = Unit {0}
 
+-- if so, not all of the n pages from s lie outside the range
+abbrev pub Meets : model.Request → ℕ → ℕ → Bool → Type 0
+Meets q s n true = ((k : ℕ) → s ≤ k → k < s + n → model.inRange q k ≡ false) → ⊥
+Meets q s n false = Unit {0}
+
 -- r of the 16 numbers from s lie below end
 pub record Cut (end s r : ℕ) : Type 0 where
   pub few : r ≤ 16

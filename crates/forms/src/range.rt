@@ -2,7 +2,7 @@
 use crate::Place;
 use crate::Request;
 ghost use Prim.Native.Nat.{_+_, _≤_, _<_, _^_};
-ghost use Rattle.forms.specs.Kinds.{requestOf, Fair, Lies, Cut, Below, Past};
+ghost use Rattle.forms.specs.Kinds.{requestOf, Fair, Lies, Meets, Cut, Below, Past};
 
 // Where the n pages from page s lie.
 pub fn lies(q: Request, s: u64, n: u64) -> Place
@@ -26,6 +26,26 @@ pub fn lies(q: Request, s: u64, n: u64) -> Place
         return Place::Across;
     }
     Place::Inside
+}
+
+// One of the n pages from page s lies in the range: the first that can is s itself, or the range's first page.
+pub fn meets(q: Request, s: u64, n: u64) -> bool
+    requires { ⌜ (s + n ≤ 2 ^ 22) × (0 < n) × Fair q ⌝ }
+    ensures { λ r. ⌜ Meets (requestOf q) s n r ⌝ }
+{
+    let start = q.start.0;
+    let end = q.start.0 + q.size;
+    let first = (start + 4095) / 4096;
+    if s + n <= first {
+        return false;
+    }
+    if end <= s * 4096 {
+        return false;
+    }
+    if end <= first * 4096 {
+        return false;
+    }
+    true
 }
 
 // How many of the 16 numbers from s lie below end.
