@@ -35,6 +35,9 @@ one-more test at i h here k lo hi =
     (λ z. subst test (sym (eqb-true k (at + i) z)) here)
     (λ z. h k lo (let ne = eqb-false k (at + i) z in omega arith))
 
+change-few : (m : List ℕ) (to : ℕ → ℕ) (k : ℕ) → length (changeAt m to k) ≤ 1
+change-few m to k = split (eqb (getD m k 0) (to (getD m k 0))) (λ z. rw z (omega arith)) (λ z. rw z (omega arith))
+
 module _ (to : ℕ → ℕ) (m0 : List ℕ) (left : Budget) (at : ℕ) where
   pub record InRow (m : List ℕ) (more : Budget) (i : ℕ) : Type 0 where
     pub size : length m ≡ length m0
@@ -68,6 +71,10 @@ module _ (to : ℕ → ℕ) (m0 : List ℕ) (left : Budget) (at : ℕ) where
           ahead = λ k lo. ap (λ (x : List ℕ). getD x k 0) wrote ∙ change-other m m0 to (at + i) k (omega arith) ∙ s .ahead k (omega arith);
           done = sym z ∙ row-said;
         }
+
+    -- where the limit allows for the whole row, the stores that are left are as many as are not made yet
+    pub row-left : {l : Budget} {m′ : List ℕ} → o ≡ whole l m′ → more .more ≤ l .more + 1
+    row-left {l} {m′} z = omega (arith, run-whole more (changeAt m0 to (at + i)) m l m′ (sym step ∙ z) .0, change-few m0 to (at + i))
 
     -- a row that is cut is cut whatever was to follow
     pub row-cut : {m′ : List ℕ} → o ≡ cut m′ → (n : ℕ) → i < n → o ≡ run left (rowStores m0 to n at) m0

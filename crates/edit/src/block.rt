@@ -5,7 +5,7 @@ use crate::Went;
 use crate::pages::link_table;
 use crate::pages::own_table;
 use crate::put::put_changed;
-use crate::rows::flat_row;
+use crate::rows::flat_entries;
 use crate::rows::pieces_row;
 use forms::Form;
 use forms::Gib;
@@ -193,7 +193,7 @@ pub fn flat_blocks(
 {
     let n = 32 - b % 32;
     let at = page_at(f, words, root) + b as usize;
-    let went = flat_row(words, at, n as usize, gib.p * 0x1000_0000_0000, left);
+    let went = flat_entries(words, at, n as usize, gib.p * 0x1000_0000_0000, left);
     let rest = went.left;
     Step {
         all: went.all,

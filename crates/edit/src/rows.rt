@@ -4,15 +4,44 @@ use crate::Row;
 use crate::Went;
 use crate::put::put_changed;
 use table::Entry;
+use table::store::store_word;
 use table::word::decode;
 ghost use mathlib.Core.Path.{_≡_};
 ghost use Prim.Native.Nat.{ℕ, _+_, _≤_, _<_};
 ghost use lib.ListN.{length, getD};
-ghost use Rattle.edit.specs.Run.{out, run};
-ghost use Rattle.edit.specs.Rows.{rowStores, piecesWord};
+ghost use Rattle.edit.specs.Run.{whole, out, run};
+ghost use Rattle.edit.specs.Rows.{changeAt, rowStores, piecesWord};
+
+// A store, if it changes the word, where the limit allows one more.
+fn put_free(words: &mut [u64], left: Budget, at: usize, word: u64) -> Budget
+    requires { ⌜ (at < length (now words)) × (0 < left .more) ⌝ }
+    ensures { λ r. ⌜ whole r (now (words .exit)) ≡ run left (changeAt (now (words .entry)) (λ w. word) at) (now (words .entry)) ⌝ }
+{
+    if words[at] == word {
+        return left;
+    }
+    store_word(words, at, word);
+    let more = left.more;
+    Budget {
+        more: more - 1,
+        last: at,
+    }
+}
+
+// The 32 words from at are all to be this word, and the limit allows for them: the entries of a GiB, whose number the compiler knows.
+fn flat_gib(words: &mut [u64], at: usize, word: u64, left: Budget) -> Budget
+    requires { ⌜ (at + 32 ≤ length (now words)) × (32 ≤ left .more) ⌝ }
+    ensures { λ r. ⌜ whole r (now (words .exit)) ≡ run left (rowStores (now (words .entry)) (λ w. word) 32 at) (now (words .entry)) ⌝ }
+{
+    let mut rest = left;
+    for i in 0..32usize {
+        rest = put_free(words, rest, at + i, word);
+    }
+    rest
+}
 
 // The n words from at are all to be this word.
-pub fn flat_row(words: &mut [u64], at: usize, n: usize, word: u64, left: Budget) -> Went
+fn flat_row(words: &mut [u64], at: usize, n: usize, word: u64, left: Budget) -> Went
     requires { ⌜ at + n ≤ length (now words) ⌝ }
     ensures { λ r. ⌜ out (r .all) (r .left) (now (words .exit)) ≡ run left (rowStores (now (words .entry)) (λ w. word) n at) (now (words .entry)) ⌝ }
 {
@@ -28,6 +57,24 @@ pub fn flat_row(words: &mut [u64], at: usize, n: usize, word: u64, left: Budget)
     Went {
         all: true,
         left: more,
+    }
+}
+
+// The same, by the quicker way where it fits.
+pub fn flat_entries(words: &mut [u64], at: usize, n: usize, word: u64, left: Budget) -> Went
+    requires { ⌜ at + n ≤ length (now words) ⌝ }
+    ensures { λ r. ⌜ out (r .all) (r .left) (now (words .exit)) ≡ run left (rowStores (now (words .entry)) (λ w. word) n at) (now (words .entry)) ⌝ }
+{
+    if n != 32 {
+        return flat_row(words, at, n, word, left);
+    }
+    if left.more < 32 {
+        return flat_row(words, at, n, word, left);
+    }
+    let rest = flat_gib(words, at, word, left);
+    Went {
+        left: rest,
+        all: true,
     }
 }
 

@@ -17,7 +17,7 @@ use Rattle.edit.proofs.block.flat_blocks.Statement.{statement}
 use Rattle.edit.proofs.block.flat_blocks.Tie as tie
 use Rattle.edit.proofs.block.flat_blocks.Reads as reads
 use Rattle.edit.proofs.block.flat_blocks.Lts as lts
-use Rattle.edit.proofs.rows.flat_row.Reads as flat-row-reads
+use Rattle.edit.proofs.rows.flat_entries.Reads as flat-entries-reads
 use Rattle.forms.proofs.words.page_at.Reads as page-at-reads
 
 -- src/block.rt:194:13
@@ -33,12 +33,12 @@ add-at : tie.Need-add-at
 add-at c = search needs
 
 -- src/block.rt:196:48
-mul-flat-row : tie.Need-mul-flat-row
-mul-flat-row c = search needs
+mul-flat-entries : tie.Need-mul-flat-entries
+mul-flat-entries c = search needs
 
 -- src/block.rt:196:9
-flat-row-requires : tie.Need-flat-row-requires
-flat-row-requires c κs = search needs
+flat-entries-requires : tie.Need-flat-entries-requires
+flat-entries-requires c κs = search needs
 
 -- src/block.rt:180:1
 same-length : tie.Need-same-length
@@ -57,7 +57,7 @@ returns c =
     = λ x lo hi. flat-entry (a .f) m (requestOf (a .q)) (a .root .0) (a .gib) (s .pre .3) x in
     record {
       made =
-          c .before .before .before .flat-row .ensures
+          c .before .before .before .flat-entries .ensures
           ∙ ap (λ (k : ℕ). run (a .left) (rowStores m (λ w. a .gib .p * 0x1000_0000_0000) n k) m) at
           ∙ ap (λ (ss : List Store). run (a .left) ss m) (sym (row-stores F m (requestOf (a .q)) (a .root .0) (a .gib) (λ w. a .gib .p * 0x1000_0000_0000) n (a .b) (drop (a .next) (freeList (a .free))) flat));
       pages = omega (arith, row-pages F m (requestOf (a .q)) (a .root .0) (a .gib) (λ w. a .gib .p * 0x1000_0000_0000) n (a .b) flat);
@@ -68,4 +68,4 @@ returns c =
 pub flat-blocks-spec : {M : Type 1} → statement M
 flat-blocks-spec =
     tie.close
-    (tie.spec sub-n page-at-requires add-at mul-flat-row flat-row-requires same-length returns)
+    (tie.spec sub-n page-at-requires add-at mul-flat-entries flat-entries-requires same-length returns)
