@@ -55,8 +55,8 @@ pub struct Step {
 // What an edit answers: how many stores it made, whether that was all, and the fence.
 pub struct Made {
     pub count: u64,
-    pub all: bool,
     pub fence: Fence,
+    pub all: bool,
 }
 
 // The stores of an edit that no refusal fits, in order, up to the limit. free: the free pages, lowest first.

@@ -13,7 +13,6 @@ use edit::make;
 use forms::Request;
 use forms::gibs::new_pages;
 pub use lookup::lookup;
-use sound::Free;
 use sound::check;
 use sound::pick::free_pages;
 use table::Address;
@@ -32,9 +31,8 @@ ghost use Prim.Native.Nat.{_<_};
 ghost use Rattle.model.specs.Frame as frame;
 ghost use Rattle.model.specs.Calls as calls;
 ghost use Rattle.table.specs.Views.{frameOf, permissionNumber};
-ghost use Rattle.forms.specs.Kinds.{requestOf};
 ghost use Rattle.monitor.specs.Outcomes.{outcomeOf, refusedWith};
-ghost use Rattle.monitor.specs.Edits.{asked, Ready};
+ghost use Rattle.monitor.specs.Edits.{asked};
 
 pub enum Reply {
     Refused(Refusal),
@@ -132,33 +130,6 @@ pub fn close(f: Frame, words: &[u64], slots: [u64; 8], slot: u64) -> Outcome
     }
 }
 
-// The stores of an edit that no refusal fits, and what they leave.
-fn edit_made(
-    f: Frame,
-    words: &mut [u64],
-    slots: [u64; 8],
-    q: Request,
-    free: Free,
-    limit: u64,
-) -> Outcome
-    requires { ⌜ Ready (frameOf f (now words)) (now words) slots (requestOf q) free ⌝ }
-    ensures { λ r. ⌜ outcomeOf r (now (words .exit))
-        ≡ calls.made (frameOf f (now (words .entry))) (now (words .entry)) slots (requestOf q)
-        (calls.storeList (frameOf f (now (words .entry))) (now (words .entry)) slots (requestOf q)) limit ⌝ }
-{
-    let at = q.slot as usize;
-    let register = slots[at];
-    let root = register::ppn(register);
-    let sdid = register::sdid(register);
-    let made = make(f, words, q, root, sdid, free, limit);
-    let fence = made.fence;
-    Outcome {
-        reply: Reply::Edited(made.count, made.all),
-        slots: slots,
-        fence: fence,
-    }
-}
-
 // "An edit names a slot, start, length, permission (one of the four) and a limit on stores." Refusals 1, 3, 4, 5, 6, 7, in this order.
 pub fn edit(
     f: Frame,
@@ -196,9 +167,18 @@ pub fn edit(
         return refused(Refusal::LentPages, slots);
     }
     let free = free_pages(f, words.len(), &checked.used);
-    let root = register::ppn(slots[slot as usize]);
+    let at = slot as usize;
+    let register = slots[at];
+    let root = register::ppn(register);
     if free.count < new_pages(f, words, q, root) {
         return refused(Refusal::NoRoom, slots);
     }
-    edit_made(f, words, slots, q, free, limit)
+    let sdid = register::sdid(register);
+    let made = make(f, words, q, root, sdid, free, limit);
+    let fence = made.fence;
+    Outcome {
+        reply: Reply::Edited(made.count, made.all),
+        slots: slots,
+        fence: fence,
+    }
 }

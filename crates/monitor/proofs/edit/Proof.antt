@@ -1,5 +1,5 @@
 -- `monitor::edit` meets its contract: the refusals in their order, and then the stores of an accepted edit.
-use mathlib.Core.Path.{_≡_, sym, ap, ap₂, _∙_, subst}
+use mathlib.Core.Path.{_≡_, sym, ap, ap₂, _∙_, subst, subst₃}
 use mathlib.Core.Bool.{Bool, true, false, not, _&&_}
 use mathlib.Core.List.{List}
 use Prim.Native.Nat.{ℕ, _<_}
@@ -12,6 +12,7 @@ use borrow.Author.Needs.{needs}
 use Rattle.model.specs.Frame.{Frame, frameOk}
 use Rattle.model.specs.Sound.{roots, sound, freePages}
 use Rattle.model.specs.Forms.{Request}
+use Rattle.model.specs.Stores.{Store}
 use Rattle.model.specs.Calls.{slotAt, registerFor, rootOf, refuse, badRange, meetsLent, editRefusal, storeList, made}
 use Rattle.table.specs.Views.{frameOf, permissionNumber}
 use Rattle.table.proofs.Frames.{framed, bounds}
@@ -20,11 +21,14 @@ use Rattle.sound.specs.declared.Free.{Free}
 use Rattle.sound.specs.Free.{clearPages, listed}
 use Rattle.sound.proofs.Laws.{says-sound, says-used, clear-is-free}
 use Rattle.forms.specs.Kinds.{wholePages}
+use Rattle.edit.specs.Kinds.{Accepted, freeList}
+use Rattle.edit.specs.Done.{IsMade}
+use Rattle.edit.proofs.Facts.{accepted-list}
 use Rattle.theory.specs.Rooted.{Rooted}
 use Rattle.monitor.specs.Slots.{notOpen}
 use Rattle.monitor.specs.Edits.{asked}
-use Rattle.monitor.proofs.EditRefusals.{noRoom, edit-frame, edit-unsound, edit-slot, edit-range, edit-lent, edit-no-room, edit-accepted, edit-done}
-use Rattle.monitor.proofs.FreePages.{listed-short}
+use Rattle.monitor.proofs.EditRefusals.{noRoom, edit-frame, edit-unsound, edit-slot, edit-range, edit-lent, edit-no-room, edit-accepted, edit-done, made-is}
+use Rattle.monitor.proofs.FreePages.{listed-front, listed-short}
 use Rattle.monitor.proofs.Sdids.{slot-low}
 use Rattle.monitor.proofs.SlotRoots.{rooted-slot}
 use Rattle.monitor.proofs.edit.Statement.{statement}
@@ -238,11 +242,11 @@ returns-5 c =
 free-pages-requires : tie.Need-free-pages-requires
 free-pages-requires c κs = framed _ _ (frame-is (c .before .before .before .before .before .before .before)) .0
 
-mul-ppn : tie.Need-mul-ppn
-mul-ppn c = let h = low (c .before .before .before .before .before .before .before .before) in omega arith
+mul-register : tie.Need-mul-register
+mul-register c = let h = low (c .before .before .before .before .before .before .before .before) in omega arith
 
-array-read-ppn : tie.Need-array-read-ppn
-array-read-ppn c = low (c .before .before .before .before .before .before .before .before)
+array-read-register : tie.Need-array-read-register
+array-read-register c = low (c .before .before .before .before .before .before .before .before)
 
 ppn-requires : tie.Need-ppn-requires
 ppn-requires c κs = search needs
@@ -279,30 +283,52 @@ returns-6 c =
           (sym (room-says k) ∙ lt-ltb _ _ (t .if6 .taken)),
     )
 
-edit-made-requires : tie.Need-edit-made-requires
-edit-made-requires c κs =
-    let x = c .before in
-    let b = x .before .before .before .before .before .before .before .before .before .before .before .before in
+sdid-requires : tie.Need-sdid-requires
+sdid-requires c κs = search needs
+
+-- the request, in the words of the crate that makes the stores, and what it asks of it
+asks : (c : tie.Else6) → let b = c .before .before .before .before .before .before .before .before .before .before .before .before in let e = b .before in
+    Accepted (frameAt e) (memoryOf e) (asked (startOf e .args .slot) (startOf e .args .start .0) (startOf e .args .length) (b .bits .result)) (c .before .before .before .before .ppn .result .0) (freeList (c .before .before .before .before .before .free-pages .result))
+unfolding slotAt registerFor rootOf
+asks c =
+    let b = c .before .before .before .before .before .before .before .before .before .before .before .before in
     let e = b .before in
+    let p = c .before .before .before .before in
     record {
       small = b .bits .ensures .1;
-      low = low e;
-      none = subst (λ (q : Request). editRefusal (frameAt e) (memoryOf e) (startOf e .args .t3) q ≡ 0) (sym (same-request b)) (accepted x);
-      areFree = free-are (x .before .before .before .before .before);
+      slots = startOf e .args .t3;
+      none = subst (λ (q : Request). editRefusal (frameAt e) (memoryOf e) (startOf e .args .t3) q ≡ 0) (sym (same-request b)) (accepted c);
+      isRoot = p .ppn .ensures .0;
+      areFree = ap freeList (free-are (p .before)) ∙ listed-front (freePages (frameAt e) (memoryOf e) (roots (frameAt e) (startOf e .args .t3)));
+      typed = λ i. omega (arith, e .before .before .before .before .before .before .before .before .slice-known .given i);
     }
+
+make-requires : tie.Need-make-requires
+make-requires c κs = asks (c .before .before)
 
 same-length-7 : tie.Need-same-length-7
 same-length-7 c = search needs
 
 returns-7 : tie.Need-returns-7
+unfolding asks slotAt registerFor rootOf
 returns-7 c =
-    let z = c .before .before in
-    let x = z .before .before in
+    let k = c .before .before in
+    let d = k .before .before in
+    let x = d .before in
     let b = x .before .before .before .before .before .before .before .before .before .before .before .before in
     let e = b .before in
-    z .edit-made .ensures
-    ∙ ap (λ (q : Request). made (frameAt e) (memoryOf e) (startOf e .args .t3) q (storeList (frameAt e) (memoryOf e) (startOf e .args .t3) q) (startOf e .args .limit)) (same-request b)
-    ∙ sym (edit-done (frameAt e) (memoryOf e) (startOf e .args .t3) (request e) (startOf e .args .limit) (accepted x))
+    let a = startOf e .args in
+    let m = memoryOf e in
+    let F = frameAt e in
+    let q = asked (a .slot) (a .start .0) (a .length) (b .bits .result) in
+    let p = x .before .before .before .before in
+    made-is F m (a .t3) q (a .limit) (storeList F m (a .t3) q) (k .make .last .1 .0) (k .make .result)
+    (subst₃ (λ (root sdid : ℕ) (list : List Store). IsMade F q root sdid list (a .limit) m (k .make .last .1 .0) (k .make .result))
+    (p .ppn .ensures .0) (d .sdid .ensures .0)
+    (accepted-list (a .f) m q (p .ppn .result .0) (freeList (p .before .free-pages .result)) (asks x))
+    (k .make .ensures))
+    ∙ ap (λ (q : Request). made F m (a .t3) q (storeList F m (a .t3) q) (a .limit)) (same-request b)
+    ∙ sym (edit-done F m (a .t3) (request e) (a .limit) (accepted x))
 
 pub edit-spec : {M : Type 1} → statement M
 edit-spec =
@@ -330,13 +356,14 @@ edit-spec =
     same-length-5
     returns-5
     free-pages-requires
-    mul-ppn
-    array-read-ppn
+    mul-register
+    array-read-register
     ppn-requires
     new-pages-requires
     refused-requires-6
     same-length-6
     returns-6
-    edit-made-requires
+    sdid-requires
+    make-requires
     same-length-7
     returns-7)
