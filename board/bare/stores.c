@@ -1,4 +1,4 @@
-/* Cases C, F, G and H and the open before them, whole, with every store trapped; the calls that store nothing; the stack that each needs. */
+/* Cases C, F, G and H and the open before them, whole, every store trapped; the calls that store nothing; the stack that each needs. */
 #include "test.h"
 
 /* The numbers of document 01's cases, and what follows from them by hand. */

@@ -60,8 +60,10 @@ static void wrong_place(uint64_t address)
     if (watched.made + 1 < watched.count && watched.list[watched.made + 1].at == at)
         fail("left out: word ", due, ", stored is word ", at);
     for (uint64_t k = watched.made; k < watched.count; k++)
-        if (watched.list[k].at == at)
-            fail(watched.list[k].word >> 44 == 4 ? "linked before its page is whole: word " : "out of order: word ", at, ", due is word ", due);
+        if (watched.list[k].at == at && watched.list[k].word >> 44 == 4)
+            fail("linked before its page is whole: word ", at, ", due is word ", due);
+        else if (watched.list[k].at == at)
+            fail("out of order: word ", at, ", due is word ", due);
     fail("a word that is not in the list: ", at, ", due is word ", due);
 }
 
