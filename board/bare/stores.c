@@ -93,7 +93,7 @@ void every_store(void)
         name[5] = case_names[nth];
         watched.call = name;
         if (begins_after[nth] >= 0)
-            set_words(KEPT->whole[begins_after[nth]].after);
+            copy_words(TABLE, KEPT->whole[begins_after[nth]].after);
         work_out(nth);
         trapped_edit(nth, whole->list, whole->count, NEVER, 1);
         same_words(whole->after, NULL, 0);

@@ -84,7 +84,7 @@ static void check_reading(uint64_t block, uint64_t from, uint64_t pages)
     static _Alignas(8) uint8_t reads[BLOCK_PAGES];
     const uint8_t *before = watched.before + block * BLOCK_PAGES, *after = watched.after + block * BLOCK_PAGES;
     second_walk(&watched.table, watched.mmpt, block, reads);
-    if (memcmp(reads, before, BLOCK_PAGES) == 0 || memcmp(reads, after, BLOCK_PAGES) == 0)
+    if (same(reads, before, BLOCK_PAGES) || same(reads, after, BLOCK_PAGES))
         return;
     for (uint64_t page = from; page < from + pages; page++)
         if (reads[page] != before[page] && reads[page] != after[page])
