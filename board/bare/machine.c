@@ -12,7 +12,6 @@ void put(char c)
     UART = (uint8_t)c;
 }
 
-/* It waits by running: a hart that sleeps while the clock counts its instructions may not wake for the reset. */
 static void end(uint32_t how)
 {
     TEST = how;
