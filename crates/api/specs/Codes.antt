@@ -88,8 +88,12 @@ replyWord opened f register = register
 replyWord closed f register = 256 + fenceWord f
 replyWord (edited count all) f register = 256 + (if all then 512 else 0) + fenceWord f + count % 2 ^ 40 * 2 ^ 18
 
-abbrev pub outcomeWord : Outcome → ℕ → ℕ
-outcomeWord o slot = replyWord (o .reply) (o .fence) (getD (o .slots) slot 0)
+abbrev pub openedWord : Outcome → ℕ → ℕ
+openedWord o slot = replyWord (o .reply) (o .fence) (getD (o .slots) slot 0)
+
+-- a close or an edit, which has no register to tell
+abbrev pub doneWord : Outcome → ℕ
+doneWord o = replyWord (o .reply) (o .fence) 0
 
 -- ---- the calls
 
@@ -108,7 +112,7 @@ module _ (F : Frame) (m : List ℕ) where
 
   -- what an edit answers, and the memory that it leaves
   abbrev pub editWord : List Slot → ℕ → ℕ → ℕ → Named ℕ → ℕ → ℕ
-  editWord slots slot start length (known p) limit = outcomeWord (editSlot F m slots (asked slot start length p) limit) slot
+  editWord slots slot start length (known p) limit = doneWord (editSlot F m slots (asked slot start length p) limit)
   editWord slots slot start length unknown limit = outside
 
   abbrev pub editMemory : List Slot → ℕ → ℕ → ℕ → Named ℕ → ℕ → List ℕ

@@ -23,7 +23,7 @@ ghost use Prim.Native.Nat.{ℕ, _/_};
 ghost use lib.ListN.{length};
 ghost use Rattle.model.specs.Calls.{openSlot, closeSlot};
 ghost use Rattle.monitor.specs.Outcomes.{outcomeOf};
-ghost use Rattle.api.specs.Codes.{privilegeAt, kindAt, permissionAt, outcomeWord, frameIn, lookupWord, soundWord, editWord, editMemory};
+ghost use Rattle.api.specs.Codes.{privilegeAt, kindAt, permissionAt, openedWord, doneWord, frameIn, lookupWord, soundWord, editWord, editMemory};
 
 // A privilege, a kind of access and a permission by their codes, if they name one.
 pub enum Who {
@@ -41,14 +41,23 @@ pub enum Grant {
     Unknown,
 }
 
-// What a call answers, in one word.
-fn outcome_word(o: Outcome, slot: u64) -> u64
-    ensures { λ r. ⌜ ((m : List ℕ) → r ≡ outcomeWord (outcomeOf o m) slot) ⌝ }
+// What an open answers, in one word.
+fn opened_word(o: Outcome, slot: u64) -> u64
+    ensures { λ r. ⌜ ((m : List ℕ) → r ≡ openedWord (outcomeOf o m) slot) ⌝ }
 {
     let reply = o.reply;
     let fence = o.fence;
     let slots = o.slots;
     reply_word(reply, fence, slot_at(slots, slot))
+}
+
+// What a close or an edit answers, in one word. The slots are not looked at.
+fn done_word(o: Outcome) -> u64
+    ensures { λ r. ⌜ ((m : List ℕ) → r ≡ doneWord (outcomeOf o m)) ⌝ }
+{
+    let reply = o.reply;
+    let fence = o.fence;
+    reply_word(reply, fence, 0)
 }
 
 #[no_mangle]
@@ -106,7 +115,7 @@ pub extern "C" fn mpt_open(
     slot: u64,
     sdid: u64,
 ) -> u64
-    ensures { λ r. ⌜ (r ≡ outcomeWord (openSlot (frameIn paw first (length (now (words .entry)) / 512)) (now (words .entry)) (now (slots .entry)) slot sdid) slot)
+    ensures { λ r. ⌜ (r ≡ openedWord (openSlot (frameIn paw first (length (now (words .entry)) / 512)) (now (words .entry)) (now (slots .entry)) slot sdid) slot)
         × (now (words .exit) ≡ openSlot (frameIn paw first (length (now (words .entry)) / 512)) (now (words .entry)) (now (slots .entry)) slot sdid .memory) ⌝ }
 {
     let f = Frame {
@@ -115,12 +124,12 @@ pub extern "C" fn mpt_open(
     };
     let kept = *slots;
     let o = monitor::open(f, words, kept, slot, Sdid(sdid));
-    outcome_word(o, slot)
+    opened_word(o, slot)
 }
 
 #[no_mangle]
 pub extern "C" fn mpt_close(paw: u64, first: u64, words: &[u64], slots: &[u64; 8], slot: u64) -> u64
-    ensures { λ r. ⌜ r ≡ outcomeWord (closeSlot (frameIn paw first (length (now (words .entry)) / 512)) (now (words .entry)) (now (slots .entry)) slot) slot ⌝ }
+    ensures { λ r. ⌜ r ≡ doneWord (closeSlot (frameIn paw first (length (now (words .entry)) / 512)) (now (words .entry)) (now (slots .entry)) slot) ⌝ }
 {
     let f = Frame {
         paw: paw,
@@ -128,7 +137,7 @@ pub extern "C" fn mpt_close(paw: u64, first: u64, words: &[u64], slots: &[u64; 8
     };
     let kept = *slots;
     let o = monitor::close(f, words, kept, slot);
-    outcome_word(o, slot)
+    done_word(o)
 }
 
 #[no_mangle]
@@ -154,7 +163,7 @@ pub extern "C" fn mpt_edit(
     match grant(permission) {
         Grant::Known(p) => {
             let o = monitor::edit(f, words, kept, slot, Address(start), size, p, limit);
-            outcome_word(o, slot)
+            done_word(o)
         }
         Grant::Unknown => 255,
     }

@@ -100,7 +100,7 @@ module _ (f : code.Frame) (m0 : List ℕ) (q : Request) (root : ℕ) (free : Lis
     perm-inj : (x y : ℕ) → perm x ≡ perm y → x ≡ y
     perm-inj x y e = cc
 
-    after-same : (n : ℕ) → n < space G → after G m q root n ≡ after G m0 q root n
+    pub after-same : (n : ℕ) → n < space G → after G m q root n ≡ after G m0 q root n
     after-same n u =
         split (inRange q n)
         (λ z. after-inside G (k .ok) m q root n z ∙ sym (after-inside G (k .ok) m0 q root n z))

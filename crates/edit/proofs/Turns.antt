@@ -1,24 +1,24 @@
--- The loop over the blocks: one turn of it, in the code's words.
-use mathlib.Core.Path.{_≡_, sym, subst}
+-- The loop over the blocks: one turn of it, over one block or several of one GiB, in the code's words.
+use mathlib.Core.Path.{_≡_, sym, ap, _∙_, subst}
 use mathlib.Core.List.{List, headD}
 use Prim.Native.Nat.{ℕ, _+_, _*_, _-_, _/_, _%_, _^_, _≤_, _<_}
 use native.Mathlib.Omega.{arith}
 use lib.ListN.{drop}
-use Rattle.edit.specs.Kinds.{storesAt, Fresh, wholeList}
+use Rattle.edit.specs.Kinds.{Fresh, wholeList}
+use Rattle.edit.specs.Rows.{storesOver, pagesOver}
 use Rattle.edit.specs.Run.{Out, whole, cut, run}
 use Rattle.edit.specs.declared.Budget.{Budget}
 use Rattle.forms.specs.declared.Gib.{Gib}
-use Rattle.forms.specs.Kinds.{formAt, GibIs}
+use Rattle.forms.specs.Kinds.{GibIs}
 use Rattle.model.specs.Forms.{Request, firstGib, gibs}
 use Rattle.model.specs.Frame.{Frame, blocks}
-use Rattle.model.specs.Numbers.{if_then_else_}
-use Rattle.model.specs.Stores.{needsPage}
-use Rattle.model.specs.Walk.{entryAt}
+use Rattle.model.specs.Stores.{Store}
 use Rattle.table.specs.Views.{frameOf}
 use Rattle.theory.specs.Rooted.{Rooted}
 use Rattle.edit.proofs.Places.{frame-same}
 use Rattle.edit.proofs.Facts.{Facts}
-use Rattle.edit.proofs.Going.{Going, fresh, gib-back, gib-same, going-cut, going-end, going-next, going-start, rooted, size}
+use Rattle.edit.proofs.Going.{Going, fresh, gib-back, gib-same, going-end, going-start, rooted, size}
+use Rattle.edit.proofs.Over.{Ends, going-over, over-same, pages-same}
 use Rattle.table.specs.declared.Frame as code
 use Rattle.forms.specs.declared.Gib as gibs′
 
@@ -55,9 +55,6 @@ module _ (f : code.Frame) (m0 : List ℕ) (q : Request) (root : ℕ) (free : Lis
     pub turn-room : b / 32 * 32 + 32 ≤ blocks (frameOf f m)
     turn-room = subst (λ (X : Frame). b / 32 * 32 + 32 ≤ blocks X) (sym same-frame) gib-room
 
-    pub turn-in : b < blocks (frameOf f m)
-    turn-in = omega (arith, turn-room)
-
     pub turn-flag : (b % 32 ≡ 0 → ⊥) → GibIs (frameOf f m) m q root (b / 32) gib
     turn-flag ne = gib-same f m0 q root free (t .k) limit m b next left (t .going) (b / 32) gib gib-room (t .flag ne)
 
@@ -71,20 +68,36 @@ module _ (f : code.Frame) (m0 : List ℕ) (q : Request) (root : ℕ) (free : Lis
       pub turn-fresh : Fresh (frameOf f m) m q root g b (headD (drop next free) 0)
       turn-fresh = fresh f m0 q root free (t .k) limit m b next left (t .going) open′ g flag₀
 
-      module _ (o : Out) (said : o ≡ run left (storesAt (frameOf f m) m q root g b (headD (drop next free) 0)) m) where
-        pub turn-cut : {m′ : List ℕ} → o ≡ cut m′ → o ≡ run limit (wholeList (frameOf f m0) m0 q root free) m0
-        turn-cut z = going-cut f m0 q root free (t .k) limit m b next left (t .going) open′ g flag₀ o said z
+      -- the blocks ahead of this GiB, as many as the code takes at once
+      module _ (n : ℕ) (within : b % 32 + n ≤ 32) (o : Out) (said : o ≡ run left (storesOver (frameOf f m) m q root g n b (drop next free)) m) where
+        in-gib : (c : ℕ) → b ≤ c → c < b + n → GibIs (frameOf f m0) m0 q root (c / 32) g
+        in-gib c lo hi = let x : b / 32 ≡ c / 32 = omega arith in subst (λ (d : ℕ). GibIs (frameOf f m0) m0 q root d g) x flag₀
 
-        pub turn-next : {l : Budget} {m′ : List ℕ} → o ≡ whole l m′ → (next′ : ℕ)
-            → next′ ≡ (if needsPage (formAt (frameOf f m) m q root g b) (entryAt (frameOf f m) m root b) then next + 1 else next)
-            → Turn f m0 q root free limit end m′ (b + 1) g next′ l
+        ends : Ends f m0 q root free (t .k) limit (b + n) (next + pagesOver (frameOf f m0) m0 q root g n b) o
+        ends =
+            subst (Ends f m0 q root free (t .k) limit (b + n) (next + pagesOver (frameOf f m0) m0 q root g n b))
+            (sym (said
+            ∙ ap (λ (X : Frame). run left (storesOver X m q root g n b (drop next free)) m) same-frame
+            ∙ ap (λ (l : List Store). run left l m) (over-same f m0 q root free (t .k) limit m b next left (t .going) g n b (drop next free) (omega arith) (omega (arith, gib-room)))))
+            (going-over f m0 q root free (t .k) limit n m b next left (t .going) g (omega (arith, t .isEnd)) in-gib)
+
+        pub turn-cut : {m′ : List ℕ} → o ≡ cut m′ → o ≡ run limit (wholeList (frameOf f m0) m0 q root free) m0
+        turn-cut z = z ∙ subst (Ends f m0 q root free (t .k) limit (b + n) (next + pagesOver (frameOf f m0) m0 q root g n b)) z ends
+
+        pub turn-next : {l : Budget} {m′ : List ℕ} → o ≡ whole l m′ → (next′ : ℕ) → next′ ≡ next + pagesOver (frameOf f m) m q root g n b → Turn f m0 q root free limit end m′ (b + n) g next′ l
         turn-next {l} {m′} z next′ y =
+            let count : next + pagesOver (frameOf f m0) m0 q root g n b ≡ next′
+            = sym (y
+            ∙ ap (λ (X : Frame). next + pagesOver X m q root g n b) same-frame
+            ∙ ap (λ (x : ℕ). next + x) (pages-same f m0 q root free (t .k) limit m b next left (t .going) g n b (omega arith) (omega (arith, gib-room)))) in
             record {
               k = t .k;
-              going = subst (λ (n : ℕ). Going f m0 q root free (t .k) limit m′ (b + 1) n l) (sym y) (going-next f m0 q root free (t .k) limit m b next left (t .going) open′ g flag₀ o said z);
+              going =
+                  subst (λ (x : ℕ). Going f m0 q root free (t .k) limit m′ (b + n) x l) count
+                  (subst (Ends f m0 q root free (t .k) limit (b + n) (next + pagesOver (frameOf f m0) m0 q root g n b)) z ends);
               isEnd = t .isEnd;
-              atMost = omega arith;
-              flag = λ ne. let x : b / 32 ≡ (b + 1) / 32 = omega (arith, ne) in subst (λ (c : ℕ). GibIs (frameOf f m0) m0 q root c g) x flag₀;
+              atMost = omega (arith, t .isEnd);
+              flag = λ ne. let x : b / 32 ≡ (b + n) / 32 = omega (arith, ne) in subst (λ (c : ℕ). GibIs (frameOf f m0) m0 q root c g) x flag₀;
             }
 
   pub turn-end : (end : ℕ) (m : List ℕ) (b : ℕ) (gib : gibs′.Gib) (next : ℕ) (left : Budget) → Turn f m0 q root free limit end m b gib next left → end ≤ b

@@ -5,6 +5,8 @@ use crate::Went;
 use crate::pages::link_table;
 use crate::pages::own_table;
 use crate::put::put_changed;
+use crate::rows::flat_entries;
+use crate::rows::pieces_row;
 use forms::Form;
 use forms::Gib;
 use forms::Place;
@@ -12,7 +14,6 @@ use forms::Request;
 use forms::blocks::block_form;
 use forms::blocks::entry_at;
 use forms::blocks::needs_page;
-use forms::range::lies;
 use forms::words::page_at;
 use sound::Free;
 use table::Entry;
@@ -21,16 +22,16 @@ use table::PageNumber;
 ghost use mathlib.Core.Path.{_≡_};
 ghost use mathlib.Core.Bool.{true, false};
 ghost use mathlib.Core.List.{headD};
-ghost use Prim.Native.Nat.{_+_, _*_, _<_, _^_};
+ghost use Prim.Native.Nat.{_+_, _*_, _/_, _%_, _≤_, _<_, _^_};
 ghost use lib.ListN.{drop};
-ghost use Rattle.edit.specs.Kinds.{Encodes, storesAt, Fresh, freeList};
+ghost use Rattle.edit.specs.Kinds.{Encodes, Fresh, freeList};
+ghost use Rattle.edit.specs.Rows.{Did};
 ghost use Rattle.edit.specs.Run.{out, run};
-ghost use Rattle.forms.specs.Kinds.{requestOf, formOf, Fair, Lies, formAt};
+ghost use Rattle.forms.specs.Kinds.{requestOf, formOf, Fair, Lies};
 ghost use Rattle.model.specs.Forms.{wantTable};
 ghost use Rattle.model.specs.Frame.{lent, blocks};
 ghost use Rattle.model.specs.Numbers.{if_then_else_};
 ghost use Rattle.model.specs.Stores.{needsPage, ifChangedL2, blockStores};
-ghost use Rattle.model.specs.Walk.{entryAt};
 ghost use Rattle.table.specs.Views.{frameOf, entryOf};
 ghost use Rattle.theory.specs.Rooted.{Good, Rooted};
 
@@ -99,6 +100,25 @@ pub fn block_stores(
     }
 }
 
+// How many blocks from b on lie outside the range, up to the end of their GiB.
+pub fn blocks_outside(q: Request, b: u64) -> u64
+    requires { ⌜ (b < 512) × Fair q ⌝ }
+    ensures { λ r. ⌜ (b % 32 + r ≤ 32) × Lies (requestOf q) (b * 8192) (r * 8192) Place.Outside ⌝ }
+{
+    let rest = 32 - b % 32;
+    if q.start.0 + q.size <= b * 0x200_0000 {
+        return rest;
+    }
+    let first = q.start.0 / 0x200_0000;
+    if first <= b {
+        return 0;
+    }
+    if first - b < rest {
+        return first - b;
+    }
+    rest
+}
+
 pub fn next_page(form: Form, e: Entry, next: u64) -> u64
     requires { ⌜ next < 2 ^ 32 ⌝ }
     ensures { λ r. ⌜ r ≡ (if needsPage (formOf form) (entryOf e) then next + 1 else next) ⌝ }
@@ -126,8 +146,8 @@ pub fn page_from(free: Free, next: u64) -> PageNumber
     PageNumber(0)
 }
 
-// A block of a GiB that need not be of one permission: its finished form, and its stores.
-pub fn mixed_step(
+// One block: its finished form, and its stores.
+pub fn one_block(
     f: Frame,
     words: &mut [u64],
     q: Request,
@@ -140,10 +160,7 @@ pub fn mixed_step(
 ) -> Step
     requires { ⌜ Rooted (frameOf f (now words)) (now words) (root .0) × (b < blocks (frameOf f (now words))) × Fair q × (gib .p < 4) × (next < 2 ^ 32)
         × Fresh (frameOf f (now words)) (now words) (requestOf q) (root .0) gib b (headD (drop next (freeList free)) 0) ⌝ }
-    ensures { λ r. ⌜ (out (r .all) (r .left) (now (words .exit))
-        ≡ run left (storesAt (frameOf f (now (words .entry))) (now (words .entry)) (requestOf q) (root .0) gib b (headD (drop next (freeList free)) 0)) (now (words .entry)))
-        × (r .next ≡ (if needsPage (formAt (frameOf f (now (words .entry))) (now (words .entry)) (requestOf q) (root .0) gib b)
-        (entryAt (frameOf f (now (words .entry))) (now (words .entry)) (root .0) b) then next + 1 else next)) ⌝ }
+    ensures { λ r. ⌜ Did (frameOf f (now (words .entry))) (now (words .entry)) (requestOf q) (root .0) gib b (freeList free) next left r (now (words .exit)) ⌝ }
 {
     let e = entry_at(f, words, root, b);
     let form = block_form(f, words, q, gib.one, gib.p, e, b);
@@ -155,34 +172,12 @@ pub fn mixed_step(
         all: went.all,
         left: rest,
         next: after,
+        count: 1,
     }
 }
 
-// A block whose finished form is TYPE 6, with these permissions.
-pub fn info_step(
-    f: Frame,
-    words: &mut [u64],
-    root: PageNumber,
-    b: u64,
-    info: u64,
-    next: u64,
-    left: Budget,
-) -> Step
-    requires { ⌜ (b < 512) × (lent (frameOf f (now words)) (root .0) ≡ true) × (info < 2 ^ 32) ⌝ }
-    ensures { λ r. ⌜ (out (r .all) (r .left) (now (words .exit))
-        ≡ run left (ifChangedL2 (frameOf f (now (words .entry))) (now (words .entry)) (root .0) b (0x6000_0000_0000 + info)) (now (words .entry))) × (r .next ≡ next) ⌝ }
-{
-    let went = put_entry(f, words, root, b, 0x6000_0000_0000 + info, left);
-    let rest = went.left;
-    Step {
-        all: went.all,
-        left: rest,
-        next: next,
-    }
-}
-
-// A block outside the range, in a GiB that is not of one permission: where it has no L1 page, its entry alone says its finished form.
-pub fn outside_step(
+// The blocks from b on of a GiB of one permission. Their entries are read only to see whether they change.
+pub fn flat_blocks(
     f: Frame,
     words: &mut [u64],
     q: Request,
@@ -193,31 +188,56 @@ pub fn outside_step(
     next: u64,
     left: Budget,
 ) -> Step
-    requires { ⌜ Rooted (frameOf f (now words)) (now words) (root .0) × (b < blocks (frameOf f (now words))) × Fair q × (gib .p < 4) × (next < 2 ^ 32)
+    requires { ⌜ (lent (frameOf f (now words)) (root .0) ≡ true) × (b < 512) × (gib .p < 4) × (gib .one ≡ true) ⌝ }
+    ensures { λ r. ⌜ Did (frameOf f (now (words .entry))) (now (words .entry)) (requestOf q) (root .0) gib b (freeList free) next left r (now (words .exit)) ⌝ }
+{
+    let n = 32 - b % 32;
+    let at = page_at(f, words, root) + b as usize;
+    let went = flat_entries(words, at, n as usize, gib.p * 0x1000_0000_0000, left);
+    let rest = went.left;
+    Step {
+        all: went.all,
+        left: rest,
+        next: next,
+        count: n,
+    }
+}
+
+// The blocks from b on, n at the most, outside the range and in a GiB that is not of one permission: where a block has no L1 page, its
+// entry alone says its finished form.
+pub fn outside_blocks(
+    f: Frame,
+    words: &mut [u64],
+    q: Request,
+    root: PageNumber,
+    gib: Gib,
+    b: u64,
+    n: u64,
+    free: Free,
+    next: u64,
+    left: Budget,
+) -> Step
+    requires { ⌜ Rooted (frameOf f (now words)) (now words) (root .0) × (b + n ≤ blocks (frameOf f (now words))) × Fair q × (gib .p < 4) × (next < 2 ^ 32)
         × Fresh (frameOf f (now words)) (now words) (requestOf q) (root .0) gib b (headD (drop next (freeList free)) 0)
-        × (gib .one ≡ false) × Lies (requestOf q) (b * 8192) 8192 Place.Outside ⌝ }
-    ensures { λ r. ⌜ (out (r .all) (r .left) (now (words .exit))
-        ≡ run left (storesAt (frameOf f (now (words .entry))) (now (words .entry)) (requestOf q) (root .0) gib b (headD (drop next (freeList free)) 0)) (now (words .entry)))
-        × (r .next ≡ (if needsPage (formAt (frameOf f (now (words .entry))) (now (words .entry)) (requestOf q) (root .0) gib b)
-        (entryAt (frameOf f (now (words .entry))) (now (words .entry)) (root .0) b) then next + 1 else next)) ⌝ }
+        × (gib .one ≡ false) × (1 ≤ n) × (b % 32 + n ≤ 32) × Lies (requestOf q) (b * 8192) (n * 8192) Place.Outside ⌝ }
+    ensures { λ r. ⌜ Did (frameOf f (now (words .entry))) (now (words .entry)) (requestOf q) (root .0) gib b (freeList free) next left r (now (words .exit)) ⌝ }
 {
-    let e = entry_at(f, words, root, b);
-    match e {
-        Entry::Flat(p) => info_step(f, words, root, b, p * 0x5555_5555, next, left),
-        Entry::Pieces(info) => {
-            if info < 0x1_0000_0000 {
-                info_step(f, words, root, b, info, next, left)
-            } else {
-                mixed_step(f, words, q, root, gib, b, free, next, left)
-            }
-        }
-        Entry::Table(_) => mixed_step(f, words, q, root, gib, b, free, next, left),
-        Entry::Invalid => mixed_step(f, words, q, root, gib, b, free, next, left),
+    let at = page_at(f, words, root) + b as usize;
+    let row = pieces_row(words, at, n as usize, left);
+    if row.count == 0 {
+        return one_block(f, words, q, root, gib, b, free, next, left);
+    }
+    let rest = row.left;
+    Step {
+        all: row.all,
+        left: rest,
+        next: next,
+        count: row.count as u64,
     }
 }
 
-// One block. In a GiB of one permission it is read only to see whether its entry changes.
-pub fn block_step(
+// The next blocks: all that are left of a GiB of one permission; those up to the range or to the end of their GiB; or one.
+pub fn next_blocks(
     f: Frame,
     words: &mut [u64],
     q: Request,
@@ -228,25 +248,16 @@ pub fn block_step(
     next: u64,
     left: Budget,
 ) -> Step
-    requires { ⌜ Rooted (frameOf f (now words)) (now words) (root .0) × (b < blocks (frameOf f (now words))) × Fair q × (gib .p < 4) × (next < 2 ^ 32)
+    requires { ⌜ Rooted (frameOf f (now words)) (now words) (root .0) × (b / 32 * 32 + 32 ≤ blocks (frameOf f (now words))) × Fair q × (gib .p < 4) × (next < 2 ^ 32)
         × Fresh (frameOf f (now words)) (now words) (requestOf q) (root .0) gib b (headD (drop next (freeList free)) 0) ⌝ }
-    ensures { λ r. ⌜ (out (r .all) (r .left) (now (words .exit))
-        ≡ run left (storesAt (frameOf f (now (words .entry))) (now (words .entry)) (requestOf q) (root .0) gib b (headD (drop next (freeList free)) 0)) (now (words .entry)))
-        × (r .next ≡ (if needsPage (formAt (frameOf f (now (words .entry))) (now (words .entry)) (requestOf q) (root .0) gib b)
-        (entryAt (frameOf f (now (words .entry))) (now (words .entry)) (root .0) b) then next + 1 else next)) ⌝ }
+    ensures { λ r. ⌜ Did (frameOf f (now (words .entry))) (now (words .entry)) (requestOf q) (root .0) gib b (freeList free) next left r (now (words .exit)) ⌝ }
 {
-    if !gib.one {
-        return match lies(q, b * 8192, 8192) {
-            Place::Outside => outside_step(f, words, q, root, gib, b, free, next, left),
-            Place::Inside => mixed_step(f, words, q, root, gib, b, free, next, left),
-            Place::Across => mixed_step(f, words, q, root, gib, b, free, next, left),
-        };
+    if gib.one {
+        return flat_blocks(f, words, q, root, gib, b, free, next, left);
     }
-    let went = put_entry(f, words, root, b, gib.p * 0x1000_0000_0000, left);
-    let rest = went.left;
-    Step {
-        all: went.all,
-        left: rest,
-        next: next,
+    let n = blocks_outside(q, b);
+    if n == 0 {
+        return one_block(f, words, q, root, gib, b, free, next, left);
     }
+    outside_blocks(f, words, q, root, gib, b, n, free, next, left)
 }

@@ -2,8 +2,9 @@
 pub mod block;
 pub mod pages;
 pub mod put;
+pub mod rows;
 
-use crate::block::block_step;
+use crate::block::next_blocks;
 use forms::Gib;
 use forms::Request;
 use forms::gibs::gib_at;
@@ -32,15 +33,23 @@ pub struct Budget {
 
 // How the stores went: all were made, and what is left; or the limit cut them.
 pub struct Went {
-    pub all: bool,
     pub left: Budget,
+    pub all: bool,
 }
 
-// How a block went, and the next new page.
-pub struct Step {
+// How a row of entries went, and how many of them it was.
+pub struct Row {
+    pub left: Budget,
+    pub count: usize,
     pub all: bool,
+}
+
+// How some blocks went, the next new page, and how many blocks it was.
+pub struct Step {
     pub left: Budget,
     pub next: u64,
+    pub count: u64,
+    pub all: bool,
 }
 
 // What an edit answers: how many stores it made, whether that was all, and the fence.
@@ -70,7 +79,7 @@ pub fn stores(
     let mut left = limit;
     while b < end {
         gib = gib_at(f, words, q, root, b, gib);
-        let step = block_step(f, words, q, root, gib, b, free, next, left);
+        let step = next_blocks(f, words, q, root, gib, b, free, next, left);
         if !step.all {
             return Went {
                 all: false,
@@ -80,7 +89,7 @@ pub fn stores(
         let rest = step.left;
         left = rest;
         next = step.next;
-        b += 1;
+        b += step.count;
     }
     Went {
         all: true,

@@ -11,7 +11,7 @@ use lib.Pow.{pow-add}
 use borrow.Author.Tests.{eqb-true, eqb-false, eq-eqb, ne-eqb, ltb-true, lt-ltb, le-ltb, le-leb, lt-leb, leb-true}
 use Rattle.forms.specs.Kinds.{mixedAt}
 use Rattle.laws.proofs.Choices.{split, and-true, and-both}
-use Rattle.laws.proofs.Digits.{digit-lt, pack-lt}
+use Rattle.laws.proofs.Digits.{pack-lt}
 use Rattle.laws.proofs.Every.{every-step, every-in}
 use Rattle.model.specs.Entry.{Entry, clean, fieldOf}
 use Rattle.model.specs.Forms.{Request, inRange, permOf}
@@ -20,18 +20,10 @@ use Rattle.model.specs.Layout.{rv64}
 use Rattle.model.specs.Numbers.{every, digit, pack}
 use Rattle.model.specs.Walk.{found}
 
-pow-times : (a c i : ℕ) → a ^ (c * i) ≡ (a ^ c) ^ i
+-- a power of a power
+pub pow-times : (a c i : ℕ) → a ^ (c * i) ≡ (a ^ c) ^ i
 pow-times a c zero = ap (λ (k : ℕ). a ^ k) (mul-zero c) ∙ pow-zero a ∙ sym (pow-zero (a ^ c))
 pow-times a c (suc i) = ap (λ (k : ℕ). a ^ k) (mul-suc c i) ∙ pow-add a (c * i) c ∙ ap (λ (k : ℕ). k * a ^ c) (pow-times a c i) ∙ sym (pow-suc (a ^ c) i)
-
--- digits by shifts
-pub shift-4 : (x i : ℕ) → x / 2 ^ (2 * i) % 4 ≡ digit 4 x i
-unfolding digit
-shift-4 x i = ap (λ (k : ℕ). x / k % 4) (pow-times 2 2 i)
-
-pub shift-16 : (x i : ℕ) → x / 2 ^ (4 * i) % 16 ≡ digit 16 x i
-unfolding digit
-shift-16 x i = ap (λ (k : ℕ). x / k % 16) (pow-times 2 4 i)
 
 -- a lent page, as numbers
 pub lent-in : (F : Frame) (p : ℕ) → lent F p ≡ true → (F .first ≤ p) × (p < F .first + F .pages)
@@ -83,6 +75,11 @@ pub pack-const : (p s : ℕ) → pack 16 (λ k. p) 16 s ≡ p * 0x1111_1111_1111
 unfolding pack
 pack-const p s = omega arith
 
+-- and a TYPE 6 entry's INFO
+pub pack4-const : (p s : ℕ) → p * 0x5555_5555 ≡ pack 4 (λ k. p) 16 s
+unfolding pack
+pack4-const p s = omega arith
+
 -- ---- a number put together from its highest digit down
 
 module _ (base : ℕ) (f : ℕ → ℕ) where
@@ -93,12 +90,6 @@ module _ (base : ℕ) (f : ℕ → ℕ) where
       let b : s + n - j ≡ suc (s + n - (j + 1)) = omega arith in
       ap₂ (λ (u v : ℕ). u + base * v) (z ∙ ap f a) (e ∙ ap (pack base f j) b)
       ∙ ap (λ (k : ℕ). pack base f k (s + n - (j + 1))) (sym (add-one j))
-
-pub pack-fits : (f : ℕ → ℕ) → ((k : ℕ) → f k < 16) → (j s : ℕ) → j ≤ 16 → pack 16 f j s < 2 ^ 64
-pack-fits f low j s h = lt-of-lt-of-le (pack-lt 16 f low j s) (pow-le-pow-right {n = 16} (omega arith) {i = j} {j = 16} h)
-
-pub mixed-small : (q : Request) (old s k : ℕ) → q .permission < 4 → mixedAt q old s k < 16
-mixed-small q old s k h = split (inRange q k) (λ z. rw z (omega arith)) (λ z. rw z (digit-lt 16 old (k - s) (omega arith)))
 
 pub outside : (q : Request) (old s k : ℕ) → inRange q (s + k) ≡ false → digit 16 old k ≡ mixedAt q old s (s + k)
 outside q old s k out = let e : k ≡ s + k - s = omega arith in rw out (ap (digit 16 old) e)

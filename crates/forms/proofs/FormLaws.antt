@@ -96,6 +96,11 @@ module _ (paw first pages : ℕ) (m : List ℕ) (q : Request) (low : q .permissi
 
 -- ---- a block whose pieces are each known
 
+pub info-pack : (x : ℕ) → x < 2 ^ 32 → x ≡ pack 4 (digit 4 x) 16 0
+info-pack x small =
+    sym (pack-digit 4 (omega arith) 16 x 0 small)
+    ∙ pack-cong 4 (λ k. digit 4 x (k - 0)) (digit 4 x) 16 0 (λ k l u. let y : k - 0 ≡ k = omega arith in ap (digit 4 x) y)
+
 module _ (paw first pages : ℕ) (m : List ℕ) (q : Request) (low : q .permission < 4) (e : Entry) (g : Good (record { layout = rv64; paw = paw; first = first; pages = pages }) m e) (b : ℕ) where
   abbrev F₃ : Frame
   F₃ = record { layout = rv64; paw = paw; first = first; pages = pages }
@@ -125,5 +130,4 @@ module _ (paw first pages : ℕ) (m : List ℕ) (q : Request) (low : q .permissi
     form-pieces-out x z small =
         known-form (digit 4 x) x
         (λ i k u lo hi. let y : k % 8192 / 512 ≡ i = omega arith in rw (h k (omega arith) (omega arith), z) (ap (digit 4 x) y))
-        (sym (pack-digit 4 (omega arith) 16 x 0 small)
-        ∙ pack-cong 4 (λ k. digit 4 x (k - 0)) (digit 4 x) 16 0 (λ k l u. let y : k - 0 ≡ k = omega arith in ap (digit 4 x) y))
+        (info-pack x small)

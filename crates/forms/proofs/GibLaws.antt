@@ -6,10 +6,10 @@ use Prim.Native.Nat.{ℕ, zero, suc, _+_, _*_, _-_, _/_, _≤_, _<_}
 use native.Mathlib.Omega.{arith}
 use native.Mathlib.Numerals.{add-one}
 use lib.Dec.{eqb}
-use borrow.Author.Tests.{eq-eqb}
+use borrow.Author.Tests.{eq-eqb, eqb-true}
 use Rattle.forms.proofs.EntryLaws.{run-inside}
 use Rattle.laws.proofs.Choices.{split}
-use Rattle.laws.proofs.Every.{every-step, every-all}
+use Rattle.laws.proofs.Every.{every-step, every-all, every-in}
 use Rattle.model.specs.Entry.{Entry}
 use Rattle.model.specs.Forms.{Request, inRange, afterIn, after, allAre, gibFirst, gibIsOne}
 use Rattle.model.specs.Frame.{Frame, blocks}
@@ -69,3 +69,21 @@ module _ (paw first pages : ℕ) (m : List ℕ) (q : Request) (low : q .permissi
         sym (run-inside paw first pages m q low (entryAt F m root (g * 32 + i)) (r .good (g * 32 + i) (omega arith)) (q .permission) 8191 ((g * 32 + i) * 8192)
         (λ k lo hi. h k (omega arith) (omega arith)))
         ∙ eq-eqb (q .permission) (q .permission) refl))
+
+  asked : (e : Entry) (k : ℕ) → inRange q k ≡ true → afterIn F m q e k ≡ q .permission
+  unfolding afterIn
+  asked e k z = rw z
+
+  -- a page in the range, where p is not the asked permission
+  pub mixed-gib : (g p : ℕ) → (p ≡ q .permission → ⊥) → (((k : ℕ) → g * 32 * 8192 ≤ k → k < g * 32 * 8192 + 262144 → inRange q k ≡ false) → ⊥) → false ≡ gibIsOne F m q root g p
+  unfolding gibIsOne allAre
+  mixed-gib g p differ met =
+      split (every (blockIs F m q root p) 32 (g * 32))
+      (λ z. absurd (met (λ k lo hi.
+      split (inRange q k)
+      (λ y. absurd (differ
+      (sym (eqb-true _ _ (every-in (λ j. eqb (afterIn F m q (entryAt F m root (k / 8192)) j) p) 8192 (k / 8192 * 8192)
+      (every-in (blockIs F m q root p) 32 (g * 32) z (k / 8192) (omega arith) (omega arith)) k (omega arith) (omega arith)))
+      ∙ asked (entryAt F m root (k / 8192)) k y)))
+      (λ y. y))))
+      (λ z. sym z)

@@ -2,7 +2,7 @@
 use mathlib.Core.Path.{_≡_}
 use mathlib.Core.Bool.{Bool, true, false}
 use mathlib.Core.List.{List}
-use Prim.Native.Nat.{ℕ, _+_, _-_, _*_, _/_, _≤_, _<_, _^_}
+use Prim.Native.Nat.{ℕ, _+_, _-_, _*_, _/_, _%_, _≤_, _<_, _^_}
 use Rattle.model.specs.Numbers.{if_then_else_, digit}
 use Rattle.model.specs.Layout.{gibBlocks}
 use Rattle.model.specs.Entry as entry
@@ -39,6 +39,17 @@ Lies q s n Inside = (k : ℕ) → s ≤ k → k < s + n → model.inRange q k �
 Lies q s n Outside = (k : ℕ) → s ≤ k → k < s + n → model.inRange q k ≡ false
 Lies q s n Across = Unit {0}
 
+-- if so, not all of the n pages from s lie outside the range
+abbrev pub Meets : model.Request → ℕ → ℕ → Bool → Type 0
+Meets q s n true = ((k : ℕ) → s ≤ k → k < s + n → model.inRange q k ≡ false) → ⊥
+Meets q s n false = Unit {0}
+
+-- r of the 16 numbers from s lie below end
+pub record Cut (end s r : ℕ) : Type 0 where
+  pub few : r ≤ 16
+  pub below : r ≤ end - s
+  pub past : r < 16 → end ≤ s + r
+
 -- no page of block b lies in the range below its L1 entry n; and none from that entry on
 abbrev pub Below : model.Request → ℕ → ℕ → Type 0
 Below q b n = (k : ℕ) → k < b * 8192 + n * 16 → b * 8192 ≤ k → model.inRange q k ≡ false
@@ -60,6 +71,15 @@ oldWord F m entry.invalid i = 0
 -- the permission of page k, once the edit is whole, by an L1 entry as it stands, whose first page is s
 abbrev pub mixedAt : model.Request → ℕ → ℕ → ℕ → ℕ
 mixedAt q old s k = if model.inRange q k then q .permission else digit 16 old (k - s)
+
+-- before the edit each page of block b, whose entry is e, is of the permission that info has for its piece
+abbrev pub Even : frame.Frame → List ℕ → entry.Entry → ℕ → ℕ → Type 0
+Even F m e b info = (i k : ℕ) → i < 16 → b * 8192 + i * 512 ≤ k → k < b * 8192 + i * 512 + 512 → model.permOf (walk.found F m e k) ≡ digit 4 info i
+
+-- the page at cuts a piece of block b, with pages on both sides, that by info has another permission than the asked one
+abbrev pub Mixes : model.Request → ℕ → ℕ → ℕ → Bool → Type 0
+Mixes q b info at true = (0 < at % 512) × (at / 8192 ≡ b) × (digit 4 info (at / 512 % 16) ≡ q .permission → ⊥)
+Mixes q b info at false = (i : ℕ) → i < 16 → b * 8192 + i * 512 < at → at < b * 8192 + i * 512 + 512 → digit 4 info i ≡ q .permission
 
 -- what piece says is so of piece i of block b, whose entry is e
 abbrev pub PieceIs : frame.Frame → List ℕ → model.Request → entry.Entry → ℕ → ℕ → Piece → Type 0

@@ -2,6 +2,7 @@
 use crate::Form;
 use crate::Place;
 use crate::Request;
+use crate::even::even_form;
 use crate::pieces::piece_at;
 use crate::range::lies;
 use crate::words::page_at;
@@ -46,8 +47,8 @@ pub fn piece_is_one(f: Frame, words: &[u64], q: Request, e: Entry, b: u64, i: u6
     piece.one
 }
 
-// The same for a block across an end of the range. The pieces at the ends of the range come first: if one is mixed, the others are not read.
-pub fn across_form(f: Frame, words: &[u64], q: Request, e: Entry, b: u64) -> Form
+// The same for a block that has an L1 page, across an end of the range. The pieces at the ends of the range come first: if one is mixed, the others are not read.
+pub fn cut_form(f: Frame, words: &[u64], q: Request, e: Entry, b: u64) -> Form
     requires { ⌜ (b < 512) × Fair q × Good (frameOf f (now words)) (now words) (entryOf e) ⌝ }
     ensures { λ r. ⌜ formOf r ≡ formIn (frameOf f (now (words .entry))) (now (words .entry)) (requestOf q) false 0 (entryOf e) b ⌝ }
 {
@@ -58,6 +59,19 @@ pub fn across_form(f: Frame, words: &[u64], q: Request, e: Entry, b: u64) -> For
         return Form::Table;
     }
     pieces_form(f, words, q, e, b)
+}
+
+// The same for a block across an end of the range.
+pub fn across_form(f: Frame, words: &[u64], q: Request, e: Entry, b: u64) -> Form
+    requires { ⌜ (b < 512) × Fair q × Good (frameOf f (now words)) (now words) (entryOf e) ⌝ }
+    ensures { λ r. ⌜ formOf r ≡ formIn (frameOf f (now (words .entry))) (now (words .entry)) (requestOf q) false 0 (entryOf e) b ⌝ }
+{
+    match e {
+        Entry::Flat(p) => even_form(f, words, q, e, b, p * 0x5555_5555),
+        Entry::Pieces(info) => even_form(f, words, q, e, b, info % 0x1_0000_0000),
+        Entry::Table(_) => cut_form(f, words, q, e, b),
+        Entry::Invalid => cut_form(f, words, q, e, b),
+    }
 }
 
 // The same for a block outside the range.

@@ -9,6 +9,7 @@ use crate::blocks::needs_page;
 use crate::pieces::block_is;
 use crate::pieces::piece_first;
 use crate::range::lies;
+use crate::range::meets;
 use table::Frame;
 use table::PageNumber;
 ghost use mathlib.Core.Path.{_≡_};
@@ -53,6 +54,7 @@ pub fn gib_of(f: Frame, words: &[u64], q: Request, root: PageNumber, g: u64) -> 
     }
 }
 
+// A GiB whose first page has another permission than the asked one is mixed, if the range has a page of it.
 pub fn read_gib(f: Frame, words: &[u64], q: Request, root: PageNumber, g: u64) -> Gib
     requires { ⌜ Rooted (frameOf f (now words)) (now words) (root .0) × (g * 32 + 32 ≤ blocks (frameOf f (now words))) × Fair q ⌝ }
     ensures { λ r. ⌜ (r .p ≡ gibFirst (frameOf f (now (words .entry))) (now (words .entry)) (requestOf q) (root .0) g)
@@ -60,6 +62,11 @@ pub fn read_gib(f: Frame, words: &[u64], q: Request, root: PageNumber, g: u64) -
 {
     let b = g * 32;
     let p = piece_first(f, words, q, entry_at(f, words, root, b), b, 0);
+    if p != q.permission {
+        if meets(q, b * 8192, 262144) {
+            return Gib { one: false, p: p };
+        }
+    }
     let one = blocks_are(f, words, q, root, g, p);
     Gib { one: one, p: p }
 }
@@ -96,7 +103,7 @@ pub fn new_page(f: Frame, words: &[u64], q: Request, root: PageNumber, b: u64) -
 // How many new pages the whole edit takes: only the blocks at the two ends of the range can take one.
 pub fn new_pages(f: Frame, words: &[u64], q: Request, root: PageNumber) -> u64
     requires { ⌜ Ranged (frameOf f (now words)) (now words) (requestOf q) (root .0) ⌝ }
-    ensures { λ r. ⌜ r ≡ wholePages (frameOf f (now (words .entry))) (now (words .entry)) (requestOf q) (root .0) ⌝ }
+    ensures { λ r. ⌜ (r ≡ wholePages (frameOf f (now (words .entry))) (now (words .entry)) (requestOf q) (root .0)) × (r ≤ 2) ⌝ }
 {
     let low = q.start.0 / 0x200_0000;
     let high = (q.start.0 + q.size - 1) / 0x200_0000;

@@ -75,8 +75,8 @@ pub fn piece_is(f: Frame, words: &[u64], q: Request, e: Entry, b: u64, i: u64, p
     }
 }
 
-// Block b is all of permission p, once the edit is whole.
-pub fn block_is(f: Frame, words: &[u64], q: Request, e: Entry, b: u64, p: u64) -> bool
+// Block b is all of permission p, once the edit is whole: each of its pieces is.
+pub fn pieces_are(f: Frame, words: &[u64], q: Request, e: Entry, b: u64, p: u64) -> bool
     requires { ⌜ (b < 512) × (p < 4) × Fair q × Good (frameOf f (now words)) (now words) (entryOf e) ⌝ }
     ensures { λ r. ⌜ r ≡ allAre (frameOf f (now (words .entry))) (now (words .entry)) (requestOf q) (entryOf e) p 8192 (b * 8192) ⌝ }
 {
@@ -86,6 +86,31 @@ pub fn block_is(f: Frame, words: &[u64], q: Request, e: Entry, b: u64, p: u64) -
         }
     }
     true
+}
+
+// The same for a block outside the range: its entry says it, unless it has an L1 page.
+pub fn old_block_is(f: Frame, words: &[u64], q: Request, e: Entry, b: u64, p: u64) -> bool
+    requires { ⌜ (b < 512) × (p < 4) × Fair q × Good (frameOf f (now words)) (now words) (entryOf e) × Lies (requestOf q) (b * 8192) 8192 Place.Outside ⌝ }
+    ensures { λ r. ⌜ r ≡ allAre (frameOf f (now (words .entry))) (now (words .entry)) (requestOf q) (entryOf e) p 8192 (b * 8192) ⌝ }
+{
+    match e {
+        Entry::Flat(o) => o == p,
+        Entry::Pieces(info) => info % 0x1_0000_0000 == p * 0x5555_5555,
+        Entry::Table(_) => pieces_are(f, words, q, e, b, p),
+        Entry::Invalid => pieces_are(f, words, q, e, b, p),
+    }
+}
+
+// The same for any block.
+pub fn block_is(f: Frame, words: &[u64], q: Request, e: Entry, b: u64, p: u64) -> bool
+    requires { ⌜ (b < 512) × (p < 4) × Fair q × Good (frameOf f (now words)) (now words) (entryOf e) ⌝ }
+    ensures { λ r. ⌜ r ≡ allAre (frameOf f (now (words .entry))) (now (words .entry)) (requestOf q) (entryOf e) p 8192 (b * 8192) ⌝ }
+{
+    match lies(q, b * 8192, 8192) {
+        Place::Inside => q.permission == p,
+        Place::Outside => old_block_is(f, words, q, e, b, p),
+        Place::Across => pieces_are(f, words, q, e, b, p),
+    }
 }
 
 // The permission of the first page of piece i of block b, once the edit is whole.

@@ -1,10 +1,8 @@
 // Where pages lie, seen from the range of an edit.
 use crate::Place;
 use crate::Request;
-ghost use mathlib.Core.Path.{_≡_};
 ghost use Prim.Native.Nat.{_+_, _≤_, _<_, _^_};
-ghost use Rattle.forms.specs.Kinds.{requestOf, Fair, Lies, Below, Past};
-ghost use Rattle.model.specs.Forms.{inRange};
+ghost use Rattle.forms.specs.Kinds.{requestOf, Fair, Lies, Meets, Cut, Below, Past};
 
 // Where the n pages from page s lie.
 pub fn lies(q: Request, s: u64, n: u64) -> Place
@@ -30,15 +28,38 @@ pub fn lies(q: Request, s: u64, n: u64) -> Place
     Place::Inside
 }
 
-pub fn in_range(q: Request, n: u64) -> bool
-    requires { ⌜ (n < 2 ^ 22) × Fair q ⌝ }
-    ensures { λ r. ⌜ r ≡ inRange (requestOf q) n ⌝ }
+// One of the n pages from page s lies in the range: the first that can is s itself, or the range's first page.
+pub fn meets(q: Request, s: u64, n: u64) -> bool
+    requires { ⌜ (s + n ≤ 2 ^ 22) × (0 < n) × Fair q ⌝ }
+    ensures { λ r. ⌜ Meets (requestOf q) s n r ⌝ }
 {
-    let at = n * 4096;
-    if at < q.start.0 {
+    let start = q.start.0;
+    let end = q.start.0 + q.size;
+    let first = (start + 4095) / 4096;
+    if s + n <= first {
         return false;
     }
-    at < q.start.0 + q.size
+    if end <= s * 4096 {
+        return false;
+    }
+    if end <= first * 4096 {
+        return false;
+    }
+    true
+}
+
+// How many of the 16 numbers from s lie below end.
+pub fn cut(end: u64, s: u64) -> u64
+    requires { ⌜ s + 16 ≤ 2 ^ 22 ⌝ }
+    ensures { λ r. ⌜ Cut end s r ⌝ }
+{
+    if end <= s {
+        return 0;
+    }
+    if s + 16 <= end {
+        return 16;
+    }
+    end - s
 }
 
 // The first L1 entry of block b that the range can meet: no page of an entry below it lies in the range.

@@ -1,17 +1,16 @@
 // L1 entries, as they stand and once the edit is whole.
 use crate::Place;
 use crate::Request;
-use crate::range::in_range;
+use crate::range::cut;
 use crate::range::lies;
 use table::Entry;
 use table::Frame;
 use table::PageNumber;
 use table::lent;
-use table::word::field;
 use table::word::piece;
 ghost use mathlib.Core.Path.{_≡_};
 ghost use mathlib.Core.Bool.{true};
-ghost use Prim.Native.Nat.{_+_, _≤_, _<_, _^_};
+ghost use Prim.Native.Nat.{_+_, _*_, _/_, _%_, _≤_, _<_, _^_};
 ghost use lib.ListN.{length};
 ghost use Rattle.forms.specs.Kinds.{requestOf, Fair, spreadOf, oldWord, mixedAt};
 ghost use Rattle.model.specs.Forms.{l1Word};
@@ -51,15 +50,24 @@ pub fn old_word(f: Frame, words: &[u64], e: Entry, i: u64) -> u64
     }
 }
 
-// Field k of an L1 entry, once the edit is whole; the entry's first page is s.
-pub fn mixed_field(q: Request, s: u64, old: u64, k: u64) -> u64
-    requires { ⌜ (k < 16) × (s + 16 ≤ 2 ^ 22) × Fair q ⌝ }
-    ensures { λ r. ⌜ (r ≡ mixedAt (requestOf q) old s (s + k)) × (r < 16) ⌝ }
+// The bits of low below bit k, and from k on those of high.
+pub fn splice(low: u64, high: u64, k: u64) -> u64
+    requires { ⌜ k < 64 ⌝ }
+    ensures { λ r. ⌜ r ≡ low % 2 ^ k + high / 2 ^ k * 2 ^ k ⌝ }
 {
-    if in_range(q, s + k) {
-        return q.permission;
+    let unit = lent::pow2(k);
+    low % unit + high / unit * unit
+}
+
+// The fields of low below field k, and from k on those of high.
+pub fn splice_fields(low: u64, high: u64, k: u64) -> u64
+    requires { ⌜ k ≤ 16 ⌝ }
+    ensures { λ r. ⌜ r ≡ low % 16 ^ k + high / 16 ^ k * 16 ^ k ⌝ }
+{
+    if k == 16 {
+        return low;
     }
-    field(old, k)
+    splice(low, high, 4 * k)
 }
 
 // The L1 entry of the 16 pages from s that stands across an end of the range.
@@ -67,11 +75,9 @@ pub fn mixed_word(q: Request, s: u64, old: u64) -> u64
     requires { ⌜ (s + 16 ≤ 2 ^ 22) × Fair q ⌝ }
     ensures { λ r. ⌜ r ≡ pack 16 (mixedAt (requestOf q) old s) 16 s ⌝ }
 {
-    let mut word: u64 = 0;
-    for j in 0..16u64 {
-        word = mixed_field(q, s, old, 15 - j) + 16 * word;
-    }
-    word
+    let low = cut((q.start.0 + 4095) / 4096, s);
+    let high = cut((q.start.0 + q.size + 4095) / 4096, s);
+    splice_fields(splice_fields(old, spread(q.permission), low), old, high)
 }
 
 // L1 entry i of block b, once the edit is whole.

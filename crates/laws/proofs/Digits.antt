@@ -15,11 +15,11 @@ pub digit-lt : (base x i : ℕ) → 0 < base → digit base x i < base
 unfolding digit
 digit-lt base x i h = mod-lt (x / base ^ i) h
 
-digit-zero : (base x : ℕ) → digit base x 0 ≡ x % base
+pub digit-zero : (base x : ℕ) → digit base x 0 ≡ x % base
 unfolding digit
 digit-zero base x = ap (λ (k : ℕ). x / k % base) (pow-zero base) ∙ ap (λ (k : ℕ). k % base) (div-one x)
 
-digit-suc : (base x i : ℕ) → digit base x (suc i) ≡ digit base (x / base) i
+pub digit-suc : (base x i : ℕ) → digit base x (suc i) ≡ digit base (x / base) i
 unfolding digit
 digit-suc base x i = ap (λ (k : ℕ). k % base) (ap (λ (k : ℕ). x / k) (pow-succ' base i) ∙ sym (div-div-eq-div-mul x base (base ^ i)))
 

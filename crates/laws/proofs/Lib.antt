@@ -5,10 +5,12 @@
 --   Times      how often a number stands in a list; `member`, `distinct` and `each` by it
 --   Sums       sums over a run of numbers and over a list, and what one change does to them
 --   Digits     `digit` and `pack`: what is packed is read back
+--   Splices    a number spliced from the digits of two
 --   PageRuns   the finished form by runs of pages and not page by page: the same, and quick
 pub mod Choices
 pub mod Every
 pub mod Times
 pub mod Sums
 pub mod Digits
+pub mod Splices
 pub mod PageRuns

@@ -1,10 +1,10 @@
 -- What an edit leaves, by the tests in their order: each law assumes that the tests before it were passed.
-use mathlib.Core.Path.{_≡_, refl, sym, ap, _∙_}
+use mathlib.Core.Path.{_≡_}
 use mathlib.Core.Bool.{Bool, true, false, not, _&&_}
-use mathlib.Core.List.{List, [], _∷_, headD, tail}
-use Prim.Native.Nat.{ℕ, zero, suc, _*_, _<_}
+use mathlib.Core.List.{List}
+use Prim.Native.Nat.{ℕ, _*_}
 use lib.Dec.{eqb, ltb}
-use lib.ListN.{length, take}
+use lib.ListN.{length}
 use Rattle.model.specs.Layout.{gibBlocks}
 use Rattle.model.specs.Register.{sdidOf}
 use Rattle.model.specs.Frame.{Frame, frameOk}
@@ -13,9 +13,7 @@ use Rattle.model.specs.Forms.{Request, forms, firstGib}
 use Rattle.model.specs.Stores.{Store, newPages}
 use Rattle.model.specs.Calls.{Outcome, edited, firstMet, registerFor, rootOf, refuse, badRange, meetsLent, finished, editRefusalWith, editRefusal, storeList, made, editWith, editSlot}
 use Rattle.table.specs.Views.{fenceOf}
-use Rattle.sound.specs.Free.{listed}
 use Rattle.edit.specs.declared.Made.{Made}
-use Rattle.edit.specs.Kinds.{freeList}
 use Rattle.edit.specs.Done.{IsMade}
 use Rattle.monitor.specs.Slots.{notOpen}
 use Rattle.monitor.specs.Outcomes.{outcomeOf}
@@ -70,14 +68,3 @@ module _ (F : Frame) (m : List ℕ) (slots : List Slot) (q : Request) where
         → outcomeOf (record { reply = Edited (r .count) (r .all); slots = slots; fence = r .fence }) m′ ≡ made F m slots q list limit
     unfolding made
     made-is list m′ r k = λ i. record { reply = edited (k .count i) (k .all i); memory = k .memory i; slots = slots; fence = k .asked i }
-
--- the two lowest of the free pages are the front of their list
-take-nil : (n : ℕ) → take {A = ℕ} n [] ≡ []
-take-nil zero = refl
-take-nil (suc n) = refl
-
-pub listed-front : (pages : List ℕ) → freeList (listed pages) ≡ take 2 pages
-unfolding headD
-listed-front [] = refl
-listed-front (x ∷ []) = refl
-listed-front (x ∷ y ∷ rest) = ap (λ (l : List ℕ). x ∷ y ∷ l) (take-nil (length rest))

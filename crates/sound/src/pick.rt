@@ -4,44 +4,53 @@ use table::Frame;
 use table::PageNumber;
 use table::page::PAGE_WORDS;
 ghost use mathlib.Core.Path.{_≡_};
-ghost use mathlib.Core.Bool.{true};
-ghost use mathlib.Core.List.{List};
-ghost use Prim.Native.Nat.{ℕ, _<_, _^_};
+ghost use mathlib.Core.Bool.{true, false};
+ghost use Prim.Native.Nat.{ℕ, _≤_, _<_};
+ghost use lib.ListN.{getD};
 ghost use Rattle.model.specs.Frame.{boundsOk};
 ghost use Rattle.table.specs.Views.{frameOver};
-ghost use Rattle.sound.specs.Free.{clearPages, listed, withPage};
+ghost use Rattle.sound.specs.Free.{clearPages, listed};
 
-// One page more, below the others, if it is not marked.
-fn with_page(above: Free, marked: bool, page: PageNumber) -> Free
-    requires { ⌜ above .count < 2 ^ 63 ⌝ }
-    ensures { λ r. ⌜ ((pages : List ℕ) → above ≡ listed pages → r ≡ listed (withPage marked (page .0) pages)) ⌝ }
+// The first of the places from `from` up to `pages` that has no mark; `pages` if each has one.
+fn next_clear(used: &[bool; 256], from: usize, pages: usize) -> usize
+    requires { ⌜ (from ≤ pages) × (pages ≤ 256) ⌝ }
+    ensures { λ r. ⌜ (from ≤ r) × (r ≤ pages) × ((k : ℕ) → from ≤ k → k < r → getD (now (used .entry)) k false ≡ true)
+        × (r < pages → getD (now (used .entry)) r false ≡ false) ⌝ }
 {
-    if marked {
-        return above;
+    for i in from..pages {
+        if !used[i] {
+            return i;
+        }
     }
-    let second = above.first;
-    Free {
-        count: above.count + 1,
-        first: page,
-        second: second,
-    }
+    pages
 }
 
-// How many lent pages have no mark, and the two lowest: from the highest page down, so that the last two met are the lowest.
+// The two lowest of the lent pages that have no mark, and whether there are none, one or two.
 pub fn free_pages(f: Frame, n: usize, used: &[bool; 256]) -> Free
     requires { ⌜ boundsOk (frameOver f n) ≡ true ⌝ }
     ensures { λ r. ⌜ r ≡ listed (clearPages (frameOver f n) (now (used .entry))) ⌝ }
 {
     let first = f.first.0;
     let pages = n / PAGE_WORDS;
-    let mut free = Free {
-        count: 0,
-        first: PageNumber(0),
-        second: PageNumber(0),
-    };
-    for i in 0..pages {
-        let at = pages - 1 - i;
-        free = with_page(free, used[at], PageNumber(first + at as u64));
+    let low = next_clear(used, 0, pages);
+    if low == pages {
+        return Free {
+            count: 0,
+            first: PageNumber(0),
+            second: PageNumber(0),
+        };
     }
-    free
+    let next = next_clear(used, low + 1, pages);
+    if next == pages {
+        return Free {
+            count: 1,
+            first: PageNumber(first + low as u64),
+            second: PageNumber(0),
+        };
+    }
+    Free {
+        count: 2,
+        first: PageNumber(first + low as u64),
+        second: PageNumber(first + next as u64),
+    }
 }

@@ -11,22 +11,18 @@ ghost use Rattle.model.specs.Entry as entry;
 ghost use Rattle.table.specs.Views.{entryOf, foundOf};
 ghost use Rattle.table.specs.Bounds.{Small};
 
-// Where TYPE and ZERO begin: bits 44 and 47. Below lies INFO, of which TYPE 6 uses bits 31:0.
+// Where TYPE begins: bit 44. Below lies INFO, of which TYPE 6 uses bits 31:0.
 const TYPE: u64 = 0x1000_0000_0000;
-
-const ZERO: u64 = 0x8000_0000_0000;
 
 const PIECES: u64 = 0x1_0000_0000;
 
-// What an L2 entry says. The page number of an L1 page is all 44 bits of INFO.
+// What an L2 entry says. TYPE is taken with ZERO above it: a number above 7 is no type. The page number of an L1 page is all 44 bits of
+// INFO.
 pub fn decode(word: u64) -> Entry
     ensures { λ r. ⌜ (entryOf r ≡ entry.decode rv64 word) × Small (entryOf r) ⌝ }
 {
     let info = word % TYPE;
-    let kind = word / TYPE % 8;
-    if word / ZERO != 0 {
-        return Entry::Invalid;
-    }
+    let kind = word / TYPE;
     if kind < 4 {
         if info == 0 {
             return Entry::Flat(kind);

@@ -111,10 +111,10 @@ module _ (L : Layout) (ok : Lawful L) where
 
   -- ---- what decoding yields
 
-  -- an entry's permissions are of four
+  -- an entry's permissions are of four, and those of its pieces are as many as there are pieces
   abbrev pub Small : Entry → Type 0
   Small (flat p) = p < 4
-  Small (pieces i) = Unit {0}
+  Small (pieces i) = i < 4 ^ L .pieces
   Small (table t) = Unit {0}
   Small invalid = Unit {0}
 
@@ -129,7 +129,7 @@ module _ (L : Layout) (ok : Lawful L) where
       (λ l. rw l
       (split (eqb (typeOf L e) 4) (λ i. rw i tt)
       (λ i. rw i (split (eqb (typeOf L e) (L .pieceType))
-      (λ j. rw j (split (ltb (infoOf L e) (4 ^ L .pieces)) (λ k. rw k tt) (λ k. rw k tt)))
+      (λ j. rw j (split (ltb (infoOf L e) (4 ^ L .pieces)) (λ k. rw k (ltb-true (infoOf L e) (4 ^ L .pieces) k)) (λ k. rw k tt)))
       (λ j. rw j tt)))))))
       (λ z. rw z tt)
 

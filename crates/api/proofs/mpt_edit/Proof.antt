@@ -1,7 +1,7 @@
 -- `api::mpt_edit` meets its contract: a permission is known by its code, and else nothing is done.
 use mathlib.Core.Path.{_≡_, refl, sym, ap, _∙_}
 use borrow.Author.Needs.{needs}
-use Rattle.api.specs.Codes.{known, permissionAt, grantOf, outcomeWord}
+use Rattle.api.specs.Codes.{known, permissionAt, grantOf, doneWord}
 use Rattle.model.specs.Calls.{Outcome}
 use Rattle.table.specs.Views.{permissionNumber}
 use Rattle.api.proofs.mpt_edit.Statement.{statement}
@@ -16,8 +16,8 @@ enum-known-p c = search needs
 edit-requires : tie.Need-edit-requires
 edit-requires c κs = search needs
 
-outcome-word-requires : tie.Need-outcome-word-requires
-outcome-word-requires c κs = search needs
+done-word-requires : tie.Need-done-word-requires
+done-word-requires c κs = search needs
 
 enum-told : tie.Need-enum-told
 enum-told c = search needs
@@ -36,7 +36,7 @@ returns c =
     let w = k .before .before .before in
     let a = w .before .before .before .before .before .args in
     rw (names w) (
-      c .outcome-word .ensures (k .edit .last .1 .0) ∙ ap (λ (o : Outcome). outcomeWord o (a .slot)) (k .edit .ensures),
+      c .done-word .ensures (k .edit .last .1 .0) ∙ ap (λ (o : Outcome). doneWord o) (k .edit .ensures),
       ap (λ (o : Outcome). o .memory) (k .edit .ensures),
     )
 
@@ -50,7 +50,7 @@ mpt-edit-spec =
     grant-requires
     enum-known-p
     edit-requires
-    outcome-word-requires
+    done-word-requires
     enum-told
     same-length
     returns

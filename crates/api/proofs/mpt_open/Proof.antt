@@ -1,7 +1,7 @@
 -- `api::mpt_open` meets its contract.
 use mathlib.Core.Path.{ap, _∙_}
 use borrow.Author.Needs.{needs}
-use Rattle.api.specs.Codes.{outcomeWord}
+use Rattle.api.specs.Codes.{openedWord}
 use Rattle.model.specs.Calls.{Outcome}
 use Rattle.api.proofs.mpt_open.Statement.{statement}
 use Rattle.api.proofs.mpt_open.Tie as tie
@@ -9,8 +9,8 @@ use Rattle.api.proofs.mpt_open.Tie as tie
 open-requires : tie.Need-open-requires
 open-requires c κs = search needs
 
-outcome-word-requires : tie.Need-outcome-word-requires
-outcome-word-requires c κs = search needs
+opened-word-requires : tie.Need-opened-word-requires
+opened-word-requires c κs = search needs
 
 same-length : tie.Need-same-length
 same-length c = search needs
@@ -19,9 +19,9 @@ returns : tie.Need-returns
 returns c =
     let k = c .before .before .before in
     let a = k .before .before .before .before .args in (
-      c .outcome-word .ensures (k .«open» .last .1 .0) ∙ ap (λ (o : Outcome). outcomeWord o (a .slot)) (k .«open» .ensures),
+      c .opened-word .ensures (k .«open» .last .1 .0) ∙ ap (λ (o : Outcome). openedWord o (a .slot)) (k .«open» .ensures),
       ap (λ (o : Outcome). o .memory) (k .«open» .ensures),
     )
 
 pub mpt-open-spec : {M : Type 1} → statement M
-mpt-open-spec = tie.close (tie.spec open-requires outcome-word-requires same-length returns)
+mpt-open-spec = tie.close (tie.spec open-requires opened-word-requires same-length returns)

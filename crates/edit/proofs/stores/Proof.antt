@@ -8,7 +8,7 @@ use native.Mathlib.Omega.{arith}
 use borrow.Author.Tests.{not-true, not-false}
 use lib.ListN.{length}
 use Rattle.edit.proofs.Facts.{Facts, facts}
-use Rattle.edit.proofs.Turns.{Turn, turn-start, turn-rooted, turn-room, turn-in, turn-flag, turn-fresh, turn-cut, turn-next, turn-end}
+use Rattle.edit.proofs.Turns.{Turn, turn-start, turn-rooted, turn-room, turn-flag, turn-fresh, turn-cut, turn-next, turn-end}
 use Rattle.edit.proofs.Going.{size}
 use Rattle.edit.proofs.Runs.{out-whole, out-cut}
 use Rattle.forms.specs.declared.Gib.{Gib}
@@ -60,13 +60,13 @@ gib-at-requires c κs =
       turn-flag (a .f) (a .words .now) (requestOf (a .q)) (a .root .0) (freeList (a .free)) (a .limit) _ (l .loop .words) (l .loop .b) (l .loop .gib) (l .loop .next) (l .loop .left) (l .loop .inv) (omega arith),
     )
 
-block-step-requires : tie.Need-block-step-requires Inv-loop μ-loop
-block-step-requires c κs =
+next-blocks-requires : tie.Need-next-blocks-requires Inv-loop μ-loop
+next-blocks-requires c κs =
     let l = c .before .before .before .before in
     let a = l .before .before .before .before .args in
     let t = l .loop .inv in (
       turn-rooted (a .f) (a .words .now) (requestOf (a .q)) (a .root .0) (freeList (a .free)) (a .limit) _ (l .loop .words) (l .loop .b) (l .loop .gib) (l .loop .next) (l .loop .left) t (omega arith),
-      turn-in (a .f) (a .words .now) (requestOf (a .q)) (a .root .0) (freeList (a .free)) (a .limit) _ (l .loop .words) (l .loop .b) (l .loop .gib) (l .loop .next) (l .loop .left) t (omega arith),
+      turn-room (a .f) (a .words .now) (requestOf (a .q)) (a .root .0) (freeList (a .free)) (a .limit) _ (l .loop .words) (l .loop .b) (l .loop .gib) (l .loop .next) (l .loop .left) t (omega arith),
       fair (t .k),
       c .before .gib-at .ensures .2,
       omega (arith, t .going .taken, t .k .few),
@@ -79,38 +79,38 @@ same-length c =
     let l = c .before .before .before .before .before .before .before .before .before in
     let a = l .before .before .before .before .args in
     let t = l .loop .inv in
-    c .before .before .before .before .block-step .kept .1 .0 ∙ size (a .f) (a .words .now) (requestOf (a .q)) (a .root .0) (freeList (a .free)) (t .k) (a .limit) (l .loop .words) (l .loop .b) (l .loop .next) (l .loop .left) (t .going)
+    c .before .before .before .before .next-blocks .kept .1 .0 ∙ size (a .f) (a .words .now) (requestOf (a .q)) (a .root .0) (freeList (a .free)) (t .k) (a .limit) (l .loop .words) (l .loop .b) (l .loop .next) (l .loop .left) (t .going)
 
 returns : tie.Need-returns Inv-loop μ-loop
 returns c =
     let l = c .before .before .before .before .before .before .before .before .before in
     let a = l .before .before .before .before .args in
     let t = l .loop .inv in
-    let r = c .before .before .before .before .block-step in
+    let r = c .before .before .before .before .next-blocks in
     let g = c .before .before .before .before .before .before .gib-at in
     let z = out-cut (r .result .all) (r .result .left) (r .last .1 .0) (not-true (r .result .all) (c .if1 .taken)) in
     sym z ∙ turn-cut (a .f) (a .words .now) (requestOf (a .q)) (a .root .0) (freeList (a .free)) (a .limit) _ (l .loop .words) (l .loop .b) (l .loop .gib) (l .loop .next) (l .loop .left) t (c .before .before .before .before .before .before .before .before .loop-test .taken)
-    (g .result) (g .ensures) _ (r .ensures .0) z
+    (g .result) (g .ensures) (r .result .count) (r .ensures .within) _ (r .ensures .made) z
 
 add-b : tie.Need-add-b Inv-loop μ-loop
 add-b c =
-    let l = c .before .before .before .before .before .before .before .before .before .before in
-    let t = l .loop .inv in
-    omega (arith, t .isEnd)
+    let l = c .before .before .before .before .before .before .before .before .before .before .before in
+    let r = c .before .before .before .before .before .before .next-blocks in
+    omega (arith, l .loop .inv .isEnd, l .loop .inv .k .inside, r .ensures .within, c .before .before .before .before .before .before .before .before .before .before .loop-test .taken)
 
 loop-less : tie.Need-loop-less Inv-loop μ-loop
-loop-less c = omega arith
+loop-less c = omega (arith, c .before .before .before .before .before .before .next-blocks .ensures .some, c .before .before .before .before .before .before .before .before .before .before .loop-test .taken)
 
 loop-again : tie.Need-loop-again Inv-loop μ-loop
 loop-again c =
-    let l = c .before .before .before .before .before .before .before .before .before .before in
+    let l = c .before .before .before .before .before .before .before .before .before .before .before in
     let a = l .before .before .before .before .args in
     let t = l .loop .inv in
-    let r = c .before .before .before .before .before .block-step in
-    let g = c .before .before .before .before .before .before .before .gib-at in
-    let z = out-whole (r .result .all) (r .result .left) (r .last .1 .0) (not-false (r .result .all) (c .before .if1 .left)) in
-    turn-next (a .f) (a .words .now) (requestOf (a .q)) (a .root .0) (freeList (a .free)) (a .limit) _ (l .loop .words) (l .loop .b) (l .loop .gib) (l .loop .next) (l .loop .left) t (c .before .before .before .before .before .before .before .before .before .loop-test .taken)
-    (g .result) (g .ensures) _ (r .ensures .0) z (r .result .next) (r .ensures .1)
+    let r = c .before .before .before .before .before .before .next-blocks in
+    let g = c .before .before .before .before .before .before .before .before .gib-at in
+    let z = out-whole (r .result .all) (r .result .left) (r .last .1 .0) (not-false (r .result .all) (c .before .before .if1 .left)) in
+    turn-next (a .f) (a .words .now) (requestOf (a .q)) (a .root .0) (freeList (a .free)) (a .limit) _ (l .loop .words) (l .loop .b) (l .loop .gib) (l .loop .next) (l .loop .left) t (c .before .before .before .before .before .before .before .before .before .before .loop-test .taken)
+    (g .result) (g .ensures) (r .result .count) (r .ensures .within) _ (r .ensures .made) z (r .result .next) (r .ensures .pages)
 
 same-length-2 : tie.Need-same-length-2 Inv-loop μ-loop
 same-length-2 c =
@@ -138,7 +138,7 @@ stores-spec =
     mul-b
     loop-holds
     gib-at-requires
-    block-step-requires
+    next-blocks-requires
     same-length
     returns
     add-b

@@ -5,6 +5,7 @@ use mathlib.Core.List.{List}
 use Prim.Native.Nat.{ℕ, _<_}
 use native.Mathlib.Omega.{arith}
 use lib.Dec.{eqb, ltb}
+use lib.ListN.{length}
 use denote.Ref.{now}
 use borrow.Author.Tests.{not-true, not-false, lt-ltb, le-ltb}
 use borrow.Author.Needs.{needs}
@@ -23,6 +24,7 @@ use Rattle.theory.specs.Rooted.{Rooted}
 use Rattle.monitor.specs.Slots.{notOpen}
 use Rattle.monitor.specs.Edits.{asked}
 use Rattle.monitor.proofs.EditRefusals.{noRoom, edit-frame, edit-unsound, edit-slot, edit-range, edit-lent, edit-no-room, edit-accepted, edit-done}
+use Rattle.monitor.proofs.FreePages.{listed-short}
 use Rattle.monitor.proofs.Sdids.{slot-low}
 use Rattle.monitor.proofs.SlotRoots.{rooted-slot}
 use Rattle.monitor.proofs.edit.Statement.{statement}
@@ -104,12 +106,17 @@ pages-are : (c : tie.After-new-pages) → let e = c .before .before .before .bef
 unfolding rootOf registerFor slotAt
 pages-are c =
     let e = c .before .before .before .before .before .before .before .before .before .before .before in
-    c .new-pages .ensures
+    c .new-pages .ensures .0
     ∙ ap₂ (λ (q : Request) (root : ℕ). wholePages (frameAt e) (memoryOf e) q root) (same-request (c .before .before .before .before .before .before .before .before .before .before)) (c .before .before .ppn .ensures .0)
 
 room-says : (c : tie.After-new-pages) → let e = c .before .before .before .before .before .before .before .before .before .before .before in
     ltb (c .before .before .before .free-pages .result .count) (c .new-pages .result) ≡ noRoom (frameAt e) (memoryOf e) (startOf e .args .t3) (request e)
-room-says c = ap₂ (λ (free : Free) (n : ℕ). ltb (free .count) n) (free-are (c .before .before .before)) (pages-are c)
+room-says c =
+    let e = c .before .before .before .before .before .before .before .before .before .before .before in
+    let pages = freePages (frameAt e) (memoryOf e) (roots (frameAt e) (startOf e .args .t3)) in
+    ap (λ (free : Free). ltb (free .count) (c .new-pages .result)) (free-are (c .before .before .before))
+    ∙ listed-short pages (c .new-pages .result) (c .new-pages .ensures .1)
+    ∙ ap (ltb (length pages)) (pages-are c)
 
 -- no refusal fits
 accepted : (c : tie.Else6) → let e = c .before .before .before .before .before .before .before .before .before .before .before .before .before in

@@ -13,7 +13,8 @@ use Rattle.forms.specs.Kinds.{requestOf}
 use Rattle.edit.specs.Kinds.{Accepted, freeList}
 use Rattle.edit.specs.Done.{IsMade}
 use Rattle.edit.proofs.Facts.{accepted-list}
-use Rattle.monitor.proofs.EditRefusals.{made-is, listed-front}
+use Rattle.monitor.proofs.EditRefusals.{made-is}
+use Rattle.monitor.proofs.FreePages.{listed-front}
 use Rattle.monitor.proofs.edit_made.Statement.{statement}
 use Rattle.monitor.proofs.edit_made.Tie as tie
 

@@ -18,6 +18,7 @@ use Rattle.sound.specs.Free.{clearPages, listed}
 use Rattle.sound.proofs.Laws.{says-sound, checked-free, free-lent, head-lent}
 use Rattle.monitor.specs.Slots.{notEmpty, badSdid}
 use Rattle.monitor.proofs.Refusals.{open-frame, open-unsound, open-slot, open-sdid, open-no-room, open-done}
+use Rattle.monitor.proofs.FreePages.{listed-none}
 use Rattle.monitor.proofs.Sdids.{slot-low, sdid-low}
 use Rattle.monitor.proofs.open.Statement.{statement}
 use Rattle.monitor.proofs.open.Tie as tie
@@ -60,7 +61,10 @@ free-are c =
 -- whether there is one
 none-free : (c : tie.After-free-pages) → let a = c .before .before .before .before .before .before .before .before .before .before .before .before .before .before .args in
     let F = frameOf (a .f) (now (a .words)) in eqb (c .free-pages .result .count) 0 ≡ eqb (length (freePages F (now (a .words)) (roots F (a .slots)))) 0
-none-free c = ap (λ (x : Free). eqb (x .count) 0) (free-are c)
+none-free c =
+    let a = c .before .before .before .before .before .before .before .before .before .before .before .before .before .before .args in
+    let F = frameOf (a .f) (now (a .words)) in
+    ap (λ (x : Free). eqb (x .count) 0) (free-are c) ∙ listed-none (freePages F (now (a .words)) (roots F (a .slots)))
 
 frame-ok-requires : tie.Need-frame-ok-requires
 frame-ok-requires c κs = search needs

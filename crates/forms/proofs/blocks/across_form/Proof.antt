@@ -1,64 +1,73 @@
-use mathlib.Core.Path.{_≡_, sym, _∙_}
-use Prim.Native.Nat.{_+_, _/_, _%_}
+use Prim.Native.Nat.{_/_, _<_}
 use native.Mathlib.Omega.{arith}
-use borrow.Author.Tests.{not-true}
 use lib.ListN.{length}
-use Rattle.forms.proofs.FormLaws.{isOne, form-table}
-use Rattle.forms.proofs.Fields.{every-fail}
-use Rattle.forms.specs.Kinds.{requestOf}
-use Rattle.table.specs.Views.{frameOf, entryOf}
+use Rattle.forms.proofs.EvenLaws.{even-flat, even-pieces}
+use Rattle.table.specs.Views.{frameOf}
 use borrow.Author.Needs.{needs}
 use Rattle.forms.proofs.blocks.across_form.Statement.{statement}
 use Rattle.forms.proofs.blocks.across_form.Tie as tie
-use Rattle.forms.proofs.blocks.across_form.Reads as reads
-use Rattle.forms.proofs.blocks.across_form.Lts as lts
-use Rattle.forms.proofs.blocks.piece_is_one.Reads as piece-is-one-reads
-use Rattle.forms.proofs.blocks.pieces_form.Reads as pieces-form-reads
 
--- src/blocks.rt:54:9
-piece-is-one-requires : tie.Need-piece-is-one-requires
-piece-is-one-requires c κs = search needs
+enum-known-e : tie.Need-enum-known-e
+enum-known-e c = search needs
 
--- src/blocks.rt:55:9
+mul-even-form : tie.Need-mul-even-form
+mul-even-form c = let h : c .before .e .given .0 .0 < 4 = rw (c .before .e .given .1) at (c .before .before .before .before .pre .2) in record { fits = omega arith }
+
+even-form-requires : tie.Need-even-form-requires
+even-form-requires c κs =
+    let s = c .before .before .before .before in
+    let a = s .args in
+    let p = c .before .e .given .0 .0 in
+    let h : p < 4 = rw (c .before .e .given .1) at (s .pre .2) in
+    (s .pre .0, s .pre .1, h, omega arith, even-flat (frameOf (a .f) (a .words .now)) (a .words .now) p (a .b) h)
+
+enum-known-e-2 : tie.Need-enum-known-e-2
+enum-known-e-2 c = search needs
+
+even-form-requires-2 : tie.Need-even-form-requires-2
+even-form-requires-2 c κs =
+    let s = c .before .before .before .before in
+    let a = s .args in
+    (s .pre .0, s .pre .1, tt, omega arith, even-pieces (a .f .paw) (a .f .first .0) (length (a .words .now) / 512) (a .words .now) (c .before .e2 .given .0 .0) (a .b))
+
+enum-told : tie.Need-enum-told
+enum-told c = search needs
+
+cut-form-requires : tie.Need-cut-form-requires
+cut-form-requires c κs = search needs
+
+enum-told-2 : tie.Need-enum-told-2
+enum-told-2 c = search needs
+
+cut-form-requires-2 : tie.Need-cut-form-requires-2
+cut-form-requires-2 c κs = search needs
+
 returns : tie.Need-returns
-returns c = let s = c .before .before .before .before in
-    let a = s .args in
-    form-table (a .f .paw) (a .f .first .0) (length (a .words .now) / 512) (a .words .now) (requestOf (a .q)) (entryOf (a .e)) (a .b)
-    (every-fail (isOne (frameOf (a .f) (a .words .now)) (a .words .now) (requestOf (a .q)) (entryOf (a .e)) (a .b)) 16 (a .q .start .0 / 0x20_0000 % 16) (omega arith)
-    (sym (c .before .piece-is-one .ensures) ∙ not-true _ (c .if1 .taken)))
+returns c = rw (c .before .before .e .given .1) (c .even-form .ensures)
 
--- src/blocks.rt:57:42
-add-piece-is-one : tie.Need-add-piece-is-one
-add-piece-is-one c = search needs
-
--- src/blocks.rt:57:9
-piece-is-one-requires-2 : tie.Need-piece-is-one-requires-2
-piece-is-one-requires-2 c κs = search needs
-
--- src/blocks.rt:58:9
 returns-2 : tie.Need-returns-2
-returns-2 c = let s = c .before .before .before .before .before .before .before in
-    let a = s .args in
-    form-table (a .f .paw) (a .f .first .0) (length (a .words .now) / 512) (a .words .now) (requestOf (a .q)) (entryOf (a .e)) (a .b)
-    (every-fail (isOne (frameOf (a .f) (a .words .now)) (a .words .now) (requestOf (a .q)) (entryOf (a .e)) (a .b)) 16 ((a .q .start .0 + a .q .size) / 0x20_0000 % 16) (omega arith)
-    (sym (c .before .piece-is-one2 .ensures) ∙ not-true _ (c .if2 .taken)))
+returns-2 c = rw (c .before .before .e2 .given .1) (c .even-form2 .ensures)
 
--- src/blocks.rt:60:5
-pieces-form-requires : tie.Need-pieces-form-requires
-pieces-form-requires c κs = search needs
-
--- src/blocks.rt:50:1
 returns-3 : tie.Need-returns-3
 returns-3 c = search needs
+
+returns-4 : tie.Need-returns-4
+returns-4 c = search needs
 
 pub across-form-spec : {M : Type 1} → statement M
 across-form-spec =
     tie.close
     (tie.spec
-    piece-is-one-requires
+    enum-known-e
+    mul-even-form
+    even-form-requires
+    enum-known-e-2
+    even-form-requires-2
+    enum-told
+    cut-form-requires
+    enum-told-2
+    cut-form-requires-2
     returns
-    add-piece-is-one
-    piece-is-one-requires-2
     returns-2
-    pieces-form-requires
-    returns-3)
+    returns-3
+    returns-4)

@@ -1,16 +1,24 @@
-use mathlib.Core.Path.{_≡_, refl, sym, ap, _∙_, subst}
-use Prim.Native.Nat.{ℕ, _+_, _*_, _/_, _<_}
+use mathlib.Core.Path.{_≡_, sym, ap, _∙_, subst}
+use Prim.Native.Nat.{_+_, _*_, _/_}
 use native.Mathlib.Omega.{arith}
 use lib.ListN.{length}
-use borrow.Author.Needs.{needs}
-use Rattle.forms.proofs.GibLaws.{first-of}
-use Rattle.forms.specs.Kinds.{requestOf}
+use Rattle.forms.proofs.GibLaws.{first-of, mixed-gib}
+use Rattle.forms.specs.Kinds.{requestOf, Meets}
 use Rattle.model.specs.Entry.{Entry}
-use Rattle.model.specs.Forms.{afterIn}
-use Rattle.table.specs.Views.{frameOf, entryOf}
+use Rattle.model.specs.Forms.{afterIn, gibFirst}
+use Rattle.table.specs.Views.{frameOf}
 use Rattle.theory.specs.Rooted.{Good}
+use borrow.Author.Needs.{needs}
 use Rattle.forms.proofs.gibs.read_gib.Statement.{statement}
 use Rattle.forms.proofs.gibs.read_gib.Tie as tie
+
+-- the permission of the GiB's first page
+first-is : (c : tie.After-piece-first) → let a = c .before .before .before .args in c .piece-first .result ≡ gibFirst (frameOf (a .f) (a .words .now)) (a .words .now) (requestOf (a .q)) (a .root .0) (a .g)
+first-is c =
+    let a = c .before .before .before .args in
+    c .piece-first .ensures .0
+    ∙ ap (λ (e : Entry). afterIn (frameOf (a .f) (a .words .now)) (a .words .now) (requestOf (a .q)) e (a .g * 32 * 8192 + 0 * 512)) (c .before .entry-at .ensures)
+    ∙ first-of _ _ _ (a .root .0) (a .g)
 
 mul-b : tie.Need-mul-b
 mul-b c = search needs
@@ -27,19 +35,38 @@ piece-first-requires c κs =
       subst (Good (frameOf (s .args .f) (s .args .words .now)) (s .args .words .now)) (sym (c .entry-at .ensures)) (s .pre .0 .good (s .args .g * 32) (omega arith)),
     )
 
-blocks-are-requires : tie.Need-blocks-are-requires
-blocks-are-requires c κs = search needs
+mul-meets : tie.Need-mul-meets
+mul-meets c = search needs
+
+meets-requires : tie.Need-meets-requires
+meets-requires c κs = search needs
 
 returns : tie.Need-returns
 returns c =
-    let a = c .before .before .before .before .args in (
-      c .before .piece-first .ensures .0
-          ∙ ap (λ (e : Entry). afterIn (frameOf (a .f) (a .words .now)) (a .words .now) (requestOf (a .q)) e (a .g * 32 * 8192 + 0 * 512)) (c .before .before .entry-at .ensures)
-          ∙ first-of _ _ _ (a .root .0) (a .g),
-      c .blocks-are .ensures,
-      c .before .piece-first .ensures .1,
+    let k = c .before .before .before .before in
+    let s = k .before .before .before in
+    let a = s .args in (
+      first-is k,
+      mixed-gib (a .f .paw) (a .f .first .0) (length (a .words .now) / 512) (a .words .now) (requestOf (a .q)) (s .pre .2 .small) (a .root .0) (a .g) (k .piece-first .result)
+          (c .before .before .if1 .taken) (subst (Meets (requestOf (a .q)) (a .g * 32 * 8192) 262144) (c .if2 .taken) (c .before .meets .ensures)),
+      k .piece-first .ensures .1,
     )
+
+blocks-are-requires : tie.Need-blocks-are-requires
+blocks-are-requires c κs = search needs
+
+returns-2 : tie.Need-returns-2
+returns-2 c = (first-is (c .before .before .before), c .blocks-are .ensures, c .before .before .before .piece-first .ensures .1)
 
 pub read-gib-spec : {M : Type 1} → statement M
 read-gib-spec =
-    tie.close (tie.spec mul-b entry-at-requires piece-first-requires blocks-are-requires returns)
+    tie.close
+    (tie.spec
+    mul-b
+    entry-at-requires
+    piece-first-requires
+    mul-meets
+    meets-requires
+    returns
+    blocks-are-requires
+    returns-2)

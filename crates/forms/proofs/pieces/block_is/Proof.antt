@@ -1,79 +1,59 @@
-use mathlib.Core.Path.{_≡_, refl, sym, ap, _∙_}
-use mathlib.Core.Bool.{Bool, true, false}
-use Prim.Native.Nat.{ℕ, _+_, _-_, _*_, _/_, _≤_, _<_}
-use native.Mathlib.Omega.{arith}
-use borrow.Author.Needs.{needs}
-use borrow.Author.Tests.{not-true, not-false}
+use Prim.Native.Nat.{_*_, _/_}
 use lib.ListN.{length}
-use Rattle.forms.proofs.EntryLaws.{pieces-next, pieces-stop, all-none}
+use Rattle.forms.proofs.EntryLaws.{run-inside}
 use Rattle.forms.specs.Kinds.{requestOf}
-use Rattle.model.specs.Forms.{allAre}
-use Rattle.table.specs.Views.{frameOf, entryOf}
+use Rattle.table.specs.Views.{entryOf}
+use borrow.Author.Needs.{needs}
 use Rattle.forms.proofs.pieces.block_is.Statement.{statement}
 use Rattle.forms.proofs.pieces.block_is.Tie as tie
 
-abbrev Inv-loop : tie.InvT-loop
-Inv-loop f words q e b p i₀ i =
-    (i ≤ 16)
-    × (allAre (frameOf f words) words (requestOf q) (entryOf e) p 8192 (b * 8192) ≡ allAre (frameOf f words) words (requestOf q) (entryOf e) p (8192 - i * 512) (b * 8192 + i * 512))
+mul-lies : tie.Need-mul-lies
+mul-lies c = search needs
 
-abbrev μ-loop : tie.MeasureT-loop
-μ-loop f words q e b p i₀ i = 16 - i
+lies-requires : tie.Need-lies-requires
+lies-requires c κs = search needs
 
-loop-holds : tie.Need-loop-holds Inv-loop μ-loop
-loop-holds c =
-    let a = c .before .args in
-    let z : a .b * 8192 ≡ a .b * 8192 + 0 * 512 = omega arith in
-    (omega arith, ap (allAre (frameOf (a .f) (a .words .now)) (a .words .now) (requestOf (a .q)) (entryOf (a .e)) (a .p) 8192) z)
+enum-told : tie.Need-enum-told
+enum-told c = search needs
 
-piece-is-requires : tie.Need-piece-is-requires Inv-loop μ-loop
-piece-is-requires c κs = search needs
+enum-told-2 : tie.Need-enum-told-2
+enum-told-2 c = search needs
 
-returns : tie.Need-returns Inv-loop μ-loop
+old-block-is-requires : tie.Need-old-block-is-requires
+old-block-is-requires c κs =
+    let pre = c .before .before .before .before .pre in
+    (pre .0, pre .1, pre .2, pre .3, rw (c .enum-told2 .given .1) at (c .before .before .lies .ensures))
+
+enum-told-3 : tie.Need-enum-told-3
+enum-told-3 c = search needs
+
+pieces-are-requires : tie.Need-pieces-are-requires
+pieces-are-requires c κs = search needs
+
+returns : tie.Need-returns
 returns c =
-    let l = c .before .before .before in
-    let a = l .before .before .args in
-    let pre = l .before .before .pre in
-    sym (l .loop .inv .1
-    ∙ pieces-stop (a .f .paw) (a .f .first .0) (length (a .words .now) / 512) (a .words .now) (requestOf (a .q)) (pre .2 .small) (entryOf (a .e)) (pre .3) (a .b) (l .loop .i) (a .p) (omega arith)
-    (sym (c .before .piece-is .ensures) ∙ not-true _ (c .if1 .taken)))
+    let s = c .before .before .before .before .before in
+    let a = s .args in
+    run-inside (a .f .paw) (a .f .first .0) (length (a .words .now) / 512) (a .words .now) (requestOf (a .q)) (s .pre .2 .small) (entryOf (a .e)) (s .pre .3) (a .p) 8191 (a .b * 8192)
+    (rw (c .before .enum-told .given .1) at (c .before .before .before .lies .ensures))
 
-add-i : tie.Need-add-i Inv-loop μ-loop
-add-i c = omega arith
+returns-2 : tie.Need-returns-2
+returns-2 c = search needs
 
-loop-less : tie.Need-loop-less Inv-loop μ-loop
-loop-less c = omega arith
-
-loop-again : tie.Need-loop-again Inv-loop μ-loop
-loop-again c =
-    let l = c .before .before .before in
-    let a = l .before .before .args in
-    let pre = l .before .before .pre in (
-      omega arith,
-      l .loop .inv .1
-          ∙ pieces-next (a .f .paw) (a .f .first .0) (length (a .words .now) / 512) (a .words .now) (requestOf (a .q)) (pre .2 .small) (entryOf (a .e)) (pre .3) (a .b) (l .loop .i) (a .p) (omega arith)
-          (sym (c .before .piece-is .ensures) ∙ not-false _ (c .if1 .left)),
-    )
-
-returns-2 : tie.Need-returns-2 Inv-loop μ-loop
-returns-2 c =
-    let l = c .before in
-    let a = l .before .before .args in
-    let pre = l .before .before .pre in
-    let z : 8192 - l .loop .i * 512 ≡ 0 = omega arith in
-    sym (l .loop .inv .1
-    ∙ all-none (a .f .paw) (a .f .first .0) (length (a .words .now) / 512) (a .words .now) (requestOf (a .q)) (pre .2 .small) (entryOf (a .e)) (pre .3) (a .p) _ (a .b * 8192 + l .loop .i * 512) z)
+returns-3 : tie.Need-returns-3
+returns-3 c = search needs
 
 pub block-is-spec : {M : Type 1} → statement M
 block-is-spec =
     tie.close
     (tie.spec
-    Inv-loop
-    μ-loop
-    loop-holds
-    piece-is-requires
+    mul-lies
+    lies-requires
+    enum-told
+    enum-told-2
+    old-block-is-requires
+    enum-told-3
+    pieces-are-requires
     returns
-    add-i
-    loop-less
-    loop-again
-    returns-2)
+    returns-2
+    returns-3)

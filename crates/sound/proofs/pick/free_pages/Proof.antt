@@ -1,76 +1,92 @@
--- `sound::pick::free_pages` meets its contract: the invariant: listed are the clear pages among those passed, from the highest down.
-use mathlib.Core.List.{headD}
+-- `sound::pick::free_pages` meets its contract: two searches, the second from behind the first page found.
 use mathlib.Core.Path.{_≡_, sym, ap, _∙_}
-use Prim.Native.Nat.{_-_, _/_, _≤_, _<_, _^_}
+use mathlib.Core.List.{List, [], _∷_, headD}
+use Prim.Native.Nat.{ℕ, _+_, _-_, _/_, _≤_, _<_, _^_}
 use native.Mathlib.Omega.{arith}
 use Rattle.table.proofs.Frames.{bounds, few-pages}
-use Rattle.sound.specs.declared.Free.{Free}
+use Rattle.table.specs.Views.{frameOver}
 use Rattle.sound.specs.Free.{clearPages, listed}
-use Rattle.sound.proofs.Clear.{clear, clear-all, clear-none, clear-few, below}
+use Rattle.sound.proofs.Clear.{clear, clear-all, clear-end, clear-next}
 use Rattle.sound.proofs.pick.free_pages.Statement.{statement}
 use Rattle.sound.proofs.pick.free_pages.Tie as tie
 
-abbrev Inv-loop : tie.InvT-loop
-Inv-loop n used first pages free₀ i₀ free i = (i ≤ pages) × (pages ≤ 256) × (first ≤ 2 ^ 22) × (free ≡ listed (clear used first pages i (pages - i)))
+few : (s : tie.Start) → s .args .n / 512 ≤ 256
+few s = bounds _ (s .pre) .most
 
-abbrev μ-loop : tie.MeasureT-loop
-μ-loop n used first pages free₀ i₀ free i = pages - i
+low : (s : tie.Start) → s .args .f .first .0 ≤ 2 ^ 22
+low s = let h = bounds _ (s .pre) in omega (arith, h, few-pages _ (h .paw-high))
 
-loop-holds : tie.Need-loop-holds Inv-loop μ-loop
-unfolding headD
-loop-holds c = let h = bounds _ (c .pre) in
-    (omega arith, omega arith, omega (arith, few-pages _ (h .paw-high)), ap listed (sym (clear-none _ _ _ _)))
+-- the clear pages from place i on
+from : (s : tie.Start) → ℕ → List ℕ
+from s i = clear (s .args .used .now) (s .args .f .first .0) (s .args .n / 512) (s .args .n / 512 - i) i
 
-sub-at : tie.Need-sub-at Inv-loop μ-loop
-sub-at c = omega arith
+all : (s : tie.Start) → clearPages (frameOver (s .args .f) (s .args .n)) (s .args .used .now) ≡ from s 0
+unfolding clearPages from
+all s = sym (clear-all _ _ _ _ _ (omega arith) (omega arith))
 
-sub-at-2 : tie.Need-sub-at-2 Inv-loop μ-loop
-sub-at-2 c = omega arith
+-- the first page found heads the list
+one : (c : tie.Else1) → let s = c .before .before in let r = c .before .next-clear .result in from s 0 ≡ (s .args .f .first .0 + r) ∷ from s (r + 1)
+unfolding from
+one c =
+    let s = c .before .before in
+    let r = c .before .next-clear in
+    let h : r .result < s .args .n / 512 = omega (arith, r .ensures .1, c .if1 .left) in
+    clear-next _ _ _ 0 (r .result) (r .ensures .0) (r .ensures .1) (r .ensures .2) h (r .ensures .3 h)
 
-element-copy-out-with-page : tie.Need-element-copy-out-with-page Inv-loop μ-loop
-element-copy-out-with-page c = omega arith
+next-clear-requires : tie.Need-next-clear-requires
+next-clear-requires c κs = (omega arith, few c)
 
-add-t16 : tie.Need-add-t16 Inv-loop μ-loop
-add-t16 c = omega arith
+returns : tie.Need-returns
+unfolding headD from
+returns c =
+    let s = c .before .before in
+    let r = c .before .next-clear in
+    sym (ap listed (all s ∙ clear-end _ _ _ 0 (r .result) (r .ensures .0) (r .ensures .1) (r .ensures .2) (c .if1 .taken)))
 
-with-page-requires : tie.Need-with-page-requires Inv-loop μ-loop
-with-page-requires c κs = let l = c .before .before in
-    let a = l .before .args in
-    let few = clear-few (a .used .now) (a .f .first .0) (a .n / 512) (l .loop .i) (a .n / 512 - l .loop .i) in
-    let same = ap (λ (x : Free). x .count) (l .loop .inv .3) in omega (arith, few, same)
+add-next-clear : tie.Need-add-next-clear
+add-next-clear c = omega (arith, few (c .before .before), c .before .next-clear .ensures .1)
 
-add-i : tie.Need-add-i Inv-loop μ-loop
-add-i c = omega arith
+next-clear-requires-2 : tie.Need-next-clear-requires-2
+next-clear-requires-2 c κs = (omega (arith, c .before .next-clear .ensures .1, c .if1 .left), few (c .before .before))
 
-loop-less : tie.Need-loop-less Inv-loop μ-loop
-loop-less c = omega arith
+add-t13 : tie.Need-add-t13
+add-t13 c = let s = c .before .before .before .before in omega (arith, few s, low s, c .before .before .before .next-clear .ensures .1)
 
-loop-again : tie.Need-loop-again Inv-loop μ-loop
-loop-again c = let l = c .before .before .before in
-    let h : l .loop .i < l .before .args .n / 512 = omega arith in
-    (omega arith, omega arith, omega arith, c .with-page .ensures _ (l .loop .inv .3) ∙ ap listed (below _ _ _ (l .loop .i) h))
+returns-2 : tie.Need-returns-2
+unfolding headD from
+returns-2 c =
+    let e = c .before .before in
+    let s = e .before .before in
+    let r = e .before .next-clear .result in
+    let n = c .before .next-clear2 in
+    sym (ap listed (all s ∙ one e ∙ ap (λ (l : List ℕ). (s .args .f .first .0 + r) ∷ l) (clear-end _ _ _ (r + 1) (n .result) (n .ensures .0) (n .ensures .1) (n .ensures .2) (c .if2 .taken))))
 
-returns : tie.Need-returns Inv-loop μ-loop
-unfolding clearPages
-returns c = let l = c .before in
-    let a = l .before .args in
-    let e : l .loop .i ≡ a .n / 512 = omega arith in
-    let z : a .n / 512 - l .loop .i ≡ 0 = omega arith in
-    l .loop .inv .3 ∙ ap listed (clear-all _ _ _ _ _ e z)
+add-t17 : tie.Need-add-t17
+add-t17 c = let s = c .before .before .before .before in omega (arith, few s, low s, c .before .before .before .next-clear .ensures .1)
+
+add-t20 : tie.Need-add-t20
+add-t20 c = let s = c .before .before .before .before in omega (arith, few s, low s, c .before .next-clear2 .ensures .1)
+
+returns-3 : tie.Need-returns-3
+unfolding headD from
+returns-3 c =
+    let e = c .before .before in
+    let s = e .before .before in
+    let r = e .before .next-clear .result in
+    let n = c .before .next-clear2 in
+    let h : n .result < s .args .n / 512 = omega (arith, n .ensures .1, c .if2 .left) in
+    sym (ap listed (all s ∙ one e ∙ ap (λ (l : List ℕ). (s .args .f .first .0 + r) ∷ l) (clear-next _ _ _ (r + 1) (n .result) (n .ensures .0) (n .ensures .1) (n .ensures .2) h (n .ensures .3 h))))
 
 pub free-pages-spec : {M : Type 1} → statement M
 free-pages-spec =
     tie.close
     (tie.spec
-    Inv-loop
-    μ-loop
-    loop-holds
-    sub-at
-    sub-at-2
-    element-copy-out-with-page
-    add-t16
-    with-page-requires
-    add-i
-    loop-less
-    loop-again
-    returns)
+    next-clear-requires
+    returns
+    add-next-clear
+    next-clear-requires-2
+    add-t13
+    returns-2
+    add-t17
+    add-t20
+    returns-3)

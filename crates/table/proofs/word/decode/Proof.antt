@@ -1,38 +1,26 @@
--- `table::word::decode` meets its contract: the tests come in the order of the definition.
-use borrow.Author.Needs.{needs}
-use Rattle.model.specs.Entry.{decode, zeroOf, typeOf, infoOf}
-use Rattle.table.proofs.Tests.{tests}
+-- `table::word::decode` meets its contract.
+use native.Mathlib.Omega.{arith}
+use Rattle.table.proofs.Decoded.{flat-word, not-flat, table-word, pieces-word, not-pieces, no-type}
 use Rattle.table.proofs.word.decode.Statement.{statement}
 use Rattle.table.proofs.word.decode.Tie as tie
 
 returns : tie.Need-returns
-unfolding decode zeroOf typeOf infoOf
-returns c = (search tests, search needs)
+returns c = (flat-word _ (omega arith) (omega arith), omega arith)
 
 returns-2 : tie.Need-returns-2
-unfolding decode zeroOf typeOf infoOf
-returns-2 c = (search tests, search needs)
+returns-2 c = (not-flat _ (omega arith) (λ e. omega (arith, e)), tt)
 
 returns-3 : tie.Need-returns-3
-unfolding decode zeroOf typeOf infoOf
-returns-3 c = (search tests, search needs)
+returns-3 c = (table-word _ (omega arith), omega arith)
 
 returns-4 : tie.Need-returns-4
-unfolding decode zeroOf typeOf infoOf
-returns-4 c = (search tests, search needs)
+returns-4 c = (pieces-word _ (omega arith) (omega arith), omega arith)
 
 returns-5 : tie.Need-returns-5
-unfolding decode zeroOf typeOf infoOf
-returns-5 c = (search tests, search needs)
+returns-5 c = (not-pieces _ (omega arith) (omega arith), tt)
 
 returns-6 : tie.Need-returns-6
-unfolding decode zeroOf typeOf infoOf
-returns-6 c = (search tests, search needs)
-
-returns-7 : tie.Need-returns-7
-unfolding decode zeroOf typeOf infoOf
-returns-7 c = (search tests, search needs)
+returns-6 c = (no-type _ (omega arith) (λ e. omega (arith, e)), tt)
 
 pub decode-spec : {M : Type 1} → statement M
-decode-spec =
-    tie.close (tie.spec returns returns-2 returns-3 returns-4 returns-5 returns-6 returns-7)
+decode-spec = tie.close (tie.spec returns returns-2 returns-3 returns-4 returns-5 returns-6)

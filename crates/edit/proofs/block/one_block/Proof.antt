@@ -4,20 +4,21 @@ use mathlib.Core.List.{List, headD}
 use Prim.Native.Nat.{ℕ, _+_, _/_, _<_, _^_}
 use native.Mathlib.Omega.{arith}
 use lib.ListN.{length, drop}
-use Rattle.model.specs.Stores.{blockStores, needsPage}
+use Rattle.model.specs.Stores.{Store, blockStores, needsPage}
 use Rattle.model.specs.Forms.{Form, formIn}
 use Rattle.model.specs.Frame.{lent}
 use borrow.Author.Needs.{needs}
 use Rattle.edit.proofs.Facts.{form-encodes}
-use Rattle.edit.specs.Kinds.{Encodes, storesAt}
+use Rattle.edit.proofs.BlockRows.{over-one, pages-one}
+use Rattle.edit.specs.Kinds.{Encodes, storesAt, freeList}
 use Rattle.edit.specs.Run.{run}
 use Rattle.forms.specs.Kinds.{requestOf, formOf, formAt}
 use Rattle.model.specs.Entry.{Entry}
 use Rattle.model.specs.Numbers.{if_then_else_}
 use Rattle.table.specs.Views.{frameOf, entryOf}
 use Rattle.theory.specs.Rooted.{Good}
-use Rattle.edit.proofs.block.mixed_step.Statement.{statement}
-use Rattle.edit.proofs.block.mixed_step.Tie as tie
+use Rattle.edit.proofs.block.one_block.Statement.{statement}
+use Rattle.edit.proofs.block.one_block.Tie as tie
 
 good-here : (c : tie.After-entry-at) → let a = c .before .before .before .args in Good (frameOf (a .f) (a .words .now)) (a .words .now) (entryOf (c .entry-at .result))
 good-here c =
@@ -70,16 +71,24 @@ returns c =
     let a = s .args in
     let bf = c .before .before .before .before .before .before .before in
     let ea = bf .before .before in
-    let F = frameOf (a .f) (a .words .now) in (
-      c .before .before .before .block-stores .ensures
-          ∙ ap₂ (λ (x : Form) (e : Entry). run (a .left) (blockStores F (a .words .now) (requestOf (a .q)) (a .root .0) x e (a .b) (c .before .before .before .before .before .before .page-from .result .0)) (a .words .now)) (form-here bf) (ea .entry-at .ensures)
-          ∙ ap (λ (n : ℕ). run (a .left) (storesAt F (a .words .now) (requestOf (a .q)) (a .root .0) (a .gib) (a .b) n) (a .words .now)) (c .before .before .before .before .before .before .page-from .ensures),
-      c .before .before .before .before .before .next-page .ensures
-          ∙ ap₂ (λ (x : Form) (e : Entry). if needsPage x e then a .next + 1 else a .next) (form-here bf) (ea .entry-at .ensures),
-    )
+    let pf = c .before .before .before .before .before .before .page-from in
+    let F = frameOf (a .f) (a .words .now) in
+    record {
+      made =
+          c .before .before .before .block-stores .ensures
+          ∙ ap₂ (λ (x : Form) (e : Entry). run (a .left) (blockStores F (a .words .now) (requestOf (a .q)) (a .root .0) x e (a .b) (pf .result .0)) (a .words .now)) (form-here bf) (ea .entry-at .ensures)
+          ∙ ap (λ (n : ℕ). run (a .left) (storesAt F (a .words .now) (requestOf (a .q)) (a .root .0) (a .gib) (a .b) n) (a .words .now)) (pf .ensures)
+          ∙ ap (λ (ss : List Store). run (a .left) ss (a .words .now)) (sym (over-one F (a .words .now) (requestOf (a .q)) (a .root .0) (a .gib) (a .b) (drop (a .next) (freeList (a .free)))));
+      pages =
+          c .before .before .before .before .before .next-page .ensures
+          ∙ ap₂ (λ (x : Form) (e : Entry). if needsPage x e then a .next + 1 else a .next) (form-here bf) (ea .entry-at .ensures)
+          ∙ sym (pages-one F (a .words .now) (requestOf (a .q)) (a .root .0) (a .gib) (a .b) (a .next));
+      some = omega arith;
+      within = omega arith;
+    }
 
-pub mixed-step-spec : {M : Type 1} → statement M
-mixed-step-spec =
+pub one-block-spec : {M : Type 1} → statement M
+one-block-spec =
     tie.close
     (tie.spec
     entry-at-requires

@@ -1,11 +1,11 @@
--- `api::outcome_word` meets its contract.
+-- `api::opened_word` meets its contract.
 use mathlib.Core.Path.{ap, _∙_}
 use borrow.Author.Needs.{needs}
 use Rattle.api.specs.Codes.{replyWord}
 use Rattle.monitor.specs.Outcomes.{replyOf}
 use Rattle.table.specs.Views.{fenceOf}
-use Rattle.api.proofs.outcome_word.Statement.{statement}
-use Rattle.api.proofs.outcome_word.Tie as tie
+use Rattle.api.proofs.opened_word.Statement.{statement}
+use Rattle.api.proofs.opened_word.Tie as tie
 
 slot-at-requires : tie.Need-slot-at-requires
 slot-at-requires c κs = search needs
@@ -16,5 +16,5 @@ reply-word-requires c κs = search needs
 returns : tie.Need-returns
 returns c = λ m. c .reply-word .ensures ∙ ap (replyWord (replyOf (c .before .before .before .args .o .reply)) (fenceOf (c .before .before .before .args .o .fence))) (c .before .slot-at .ensures)
 
-pub outcome-word-spec : {M : Type 1} → statement M
-outcome-word-spec = tie.close (tie.spec slot-at-requires reply-word-requires returns)
+pub opened-word-spec : {M : Type 1} → statement M
+opened-word-spec = tie.close (tie.spec slot-at-requires reply-word-requires returns)

@@ -1,0 +1,97 @@
+-- Several blocks of one GiB at once: where each block's stores are that of its entry, if it changes, those of a row of entries are those
+-- of its blocks.
+use mathlib.Core.Path.{_≡_, refl, sym, ap, ap₂, _∙_, subst}
+use mathlib.Core.Bool.{true, false}
+use mathlib.Core.List.{List, _++_, append-nil, headD}
+use Prim.Native.Nat.{ℕ, zero, suc, _+_, _*_, _≤_, _<_}
+use native.Mathlib.Nat.{zero-add}
+use native.Mathlib.Omega.{arith}
+use lib.ListN.{getD}
+use Rattle.edit.specs.Kinds.{storesAt}
+use Rattle.edit.specs.Rows.{changeAt, rowStores, piecesOf, piecesWord, storesOver, pagesOver}
+use Rattle.forms.specs.declared.Gib.{Gib}
+use Rattle.forms.specs.Kinds.{formAt}
+use Rattle.laws.proofs.Choices.{split}
+use Rattle.model.specs.Entry.{Entry, flat, pieces, table, invalid, decode, encode}
+use Rattle.model.specs.Forms.{Request, Form, wantPieces, formIn, formsIn, inRange}
+use Rattle.model.specs.Frame.{Frame, lent, indexOf, wordAt}
+use Rattle.model.specs.Layout.{rv64}
+use Rattle.model.specs.Numbers.{if_then_else_, joined}
+use Rattle.model.specs.Stores.{Store, ifChangedL2, blockStores, needsPage, newPages, storesFrom}
+use Rattle.model.specs.Walk.{entryAt, entryPage, entryPlace, l2Word}
+use Rattle.table.specs.Views.{frameOf}
+use Rattle.theory.proofs.Entries.{Small, decode-small, rv64-lawful}
+use Rattle.theory.specs.Rooted.{Good}
+use Rattle.edit.proofs.PiecesBlock.{info-stores, flat-form, pieces-form}
+use Rattle.edit.proofs.Places.{changed-l2}
+use Rattle.table.specs.declared.Frame as code
+
+module _ (F : Frame) (m : List ℕ) (q : Request) (root : ℕ) (gib : Gib) where
+  -- ---- one block
+
+  pub over-one : (b : ℕ) (fr : List ℕ) → storesOver F m q root gib 1 b fr ≡ storesAt F m q root gib b (headD fr 0)
+  unfolding storesFrom formsIn
+  over-one b fr = append-nil (storesAt F m q root gib b (headD fr 0))
+
+  pub pages-one : (b next : ℕ) → next + pagesOver F m q root gib 1 b ≡ (if needsPage (formAt F m q root gib b) (entryAt F m root b) then next + 1 else next)
+  unfolding newPages formsIn
+  pages-one b next = split (needsPage (formAt F m q root gib b) (entryAt F m root b)) (λ z. rw z (omega arith)) (λ z. rw z (omega arith))
+
+  -- ---- a row
+
+  -- block c has one store at the most: its entry becomes what `to` makes of it
+  pub record Entrywise (to : ℕ → ℕ) (c : ℕ) : Type 0 where
+    pub stores : (new : ℕ) → storesAt F m q root gib c new ≡ ifChangedL2 F m root c (to (l2Word F m root c))
+    pub page : needsPage (formAt F m q root gib c) (entryAt F m root c) ≡ false
+
+  index-next : (b : ℕ) → suc (indexOf F root b) ≡ indexOf F root (suc b)
+  unfolding indexOf
+  index-next b = omega arith
+
+  module _ (to : ℕ → ℕ) where
+    pub row-stores : (n b : ℕ) (fr : List ℕ) → ((c : ℕ) → b ≤ c → c < b + n → Entrywise to c) → storesOver F m q root gib n b fr ≡ rowStores m to n (indexOf F root b)
+    unfolding storesFrom formsIn joined l2Word wordAt entryPage entryPlace
+    row-stores zero b fr h = refl
+    row-stores (suc n) b fr h =
+        let e : Entrywise to b = h b (omega arith) (omega arith) in
+        ap₂ (λ (x y : List Store). x ++ y)
+        (e .stores (headD fr 0) ∙ sym (changed-l2 F m root b (to (l2Word F m root b)) (indexOf F root b) refl))
+        (rw (e .page) (row-stores n (suc b) fr (λ c lo hi. h c (omega arith) (omega arith))) ∙ ap (joined (changeAt m to) n) (sym (index-next b)))
+
+    pub row-pages : (n b : ℕ) → ((c : ℕ) → b ≤ c → c < b + n → Entrywise to c) → pagesOver F m q root gib n b ≡ 0
+    unfolding newPages formsIn
+    row-pages zero b h = refl
+    row-pages (suc n) b h = rw (h b (omega arith) (omega arith) .page) (zero-add _ ∙ row-pages n (suc b) (λ c lo hi. h c (omega arith) (omega arith)))
+
+-- ---- the two kinds of row
+
+module _ (f : code.Frame) (m : List ℕ) (q : Request) (root : ℕ) (gib : Gib) where
+  abbrev F₁ : Frame
+  F₁ = frameOf f m
+
+  -- a GiB of one permission
+  pub flat-entry : gib .one ≡ true → (c : ℕ) → Entrywise F₁ m q root gib (λ w. gib .p * 0x1000_0000_0000) c
+  unfolding formIn blockStores needsPage encode
+  flat-entry z c = record { stores = λ new. rw z; page = rw z }
+
+  -- outside the range, in a GiB that is not: an entry without an L1 page
+  pub pieces-entry : q .permission < 4 → gib .one ≡ false → lent F₁ root ≡ true → (c : ℕ) → Good F₁ m (entryAt F₁ m root c)
+      → ((k : ℕ) → c * 8192 ≤ k → k < c * 8192 + 8192 → inRange q k ≡ false) → (piecesWord (getD m (indexOf F₁ root c) 0) ≡ 0 → ⊥) → Entrywise F₁ m q root gib piecesWord c
+  unfolding entryAt l2Word wordAt entryPage entryPlace needsPage
+  pieces-entry low mixed ro c g o some = go (decode rv64 (l2Word F₁ m root c)) refl (decode-small rv64 rv64-lawful (l2Word F₁ m root c))
+    where
+      said : entryAt F₁ m root c ≡ decode rv64 (l2Word F₁ m root c)
+      said = rw ro refl
+
+      made : (info : ℕ) → wantPieces info ≡ formAt F₁ m q root gib c → piecesWord (l2Word F₁ m root c) ≡ 0x6000_0000_0000 + info → Entrywise F₁ m q root gib piecesWord c
+      made info z w =
+          record {
+            stores = λ new. sym (info-stores f m q root gib c info z new) ∙ ap (ifChangedL2 F₁ m root c) (sym w);
+            page = ap (λ (x : Form). needsPage x (entryAt F₁ m root c)) (sym z);
+          }
+
+      go : (e : Entry) → decode rv64 (l2Word F₁ m root c) ≡ e → Small rv64 rv64-lawful e → Entrywise F₁ m q root gib piecesWord c
+      go (flat p) z s = made (p * 0x5555_5555) (flat-form f m q low root gib c g mixed o p (sym (said ∙ z))) (ap piecesOf z)
+      go (pieces x) z s = made x (pieces-form f m q low root gib c g mixed o x (sym (said ∙ z)) s) (ap piecesOf z)
+      go (table t) z s = absurd (some (ap piecesOf z))
+      go invalid z s = absurd (some (ap piecesOf z))

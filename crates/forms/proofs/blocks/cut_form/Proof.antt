@@ -1,0 +1,64 @@
+use mathlib.Core.Path.{_≡_, sym, _∙_}
+use Prim.Native.Nat.{_+_, _/_, _%_}
+use native.Mathlib.Omega.{arith}
+use borrow.Author.Tests.{not-true}
+use lib.ListN.{length}
+use Rattle.forms.proofs.FormLaws.{isOne, form-table}
+use Rattle.forms.proofs.Fields.{every-fail}
+use Rattle.forms.specs.Kinds.{requestOf}
+use Rattle.table.specs.Views.{frameOf, entryOf}
+use borrow.Author.Needs.{needs}
+use Rattle.forms.proofs.blocks.cut_form.Statement.{statement}
+use Rattle.forms.proofs.blocks.cut_form.Tie as tie
+use Rattle.forms.proofs.blocks.cut_form.Reads as reads
+use Rattle.forms.proofs.blocks.cut_form.Lts as lts
+use Rattle.forms.proofs.blocks.piece_is_one.Reads as piece-is-one-reads
+use Rattle.forms.proofs.blocks.pieces_form.Reads as pieces-form-reads
+
+-- src/blocks.rt:54:9
+piece-is-one-requires : tie.Need-piece-is-one-requires
+piece-is-one-requires c κs = search needs
+
+-- src/blocks.rt:55:9
+returns : tie.Need-returns
+returns c = let s = c .before .before .before .before in
+    let a = s .args in
+    form-table (a .f .paw) (a .f .first .0) (length (a .words .now) / 512) (a .words .now) (requestOf (a .q)) (entryOf (a .e)) (a .b)
+    (every-fail (isOne (frameOf (a .f) (a .words .now)) (a .words .now) (requestOf (a .q)) (entryOf (a .e)) (a .b)) 16 (a .q .start .0 / 0x20_0000 % 16) (omega arith)
+    (sym (c .before .piece-is-one .ensures) ∙ not-true _ (c .if1 .taken)))
+
+-- src/blocks.rt:57:42
+add-piece-is-one : tie.Need-add-piece-is-one
+add-piece-is-one c = search needs
+
+-- src/blocks.rt:57:9
+piece-is-one-requires-2 : tie.Need-piece-is-one-requires-2
+piece-is-one-requires-2 c κs = search needs
+
+-- src/blocks.rt:58:9
+returns-2 : tie.Need-returns-2
+returns-2 c = let s = c .before .before .before .before .before .before .before in
+    let a = s .args in
+    form-table (a .f .paw) (a .f .first .0) (length (a .words .now) / 512) (a .words .now) (requestOf (a .q)) (entryOf (a .e)) (a .b)
+    (every-fail (isOne (frameOf (a .f) (a .words .now)) (a .words .now) (requestOf (a .q)) (entryOf (a .e)) (a .b)) 16 ((a .q .start .0 + a .q .size) / 0x20_0000 % 16) (omega arith)
+    (sym (c .before .piece-is-one2 .ensures) ∙ not-true _ (c .if2 .taken)))
+
+-- src/blocks.rt:60:5
+pieces-form-requires : tie.Need-pieces-form-requires
+pieces-form-requires c κs = search needs
+
+-- src/blocks.rt:50:1
+returns-3 : tie.Need-returns-3
+returns-3 c = search needs
+
+pub cut-form-spec : {M : Type 1} → statement M
+cut-form-spec =
+    tie.close
+    (tie.spec
+    piece-is-one-requires
+    returns
+    add-piece-is-one
+    piece-is-one-requires-2
+    returns-2
+    pieces-form-requires
+    returns-3)

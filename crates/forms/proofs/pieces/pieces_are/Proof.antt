@@ -1,0 +1,79 @@
+use mathlib.Core.Path.{_≡_, refl, sym, ap, _∙_}
+use mathlib.Core.Bool.{Bool, true, false}
+use Prim.Native.Nat.{ℕ, _+_, _-_, _*_, _/_, _≤_, _<_}
+use native.Mathlib.Omega.{arith}
+use borrow.Author.Needs.{needs}
+use borrow.Author.Tests.{not-true, not-false}
+use lib.ListN.{length}
+use Rattle.forms.proofs.EntryLaws.{pieces-next, pieces-stop, all-none}
+use Rattle.forms.specs.Kinds.{requestOf}
+use Rattle.model.specs.Forms.{allAre}
+use Rattle.table.specs.Views.{frameOf, entryOf}
+use Rattle.forms.proofs.pieces.pieces_are.Statement.{statement}
+use Rattle.forms.proofs.pieces.pieces_are.Tie as tie
+
+abbrev Inv-loop : tie.InvT-loop
+Inv-loop f words q e b p i₀ i =
+    (i ≤ 16)
+    × (allAre (frameOf f words) words (requestOf q) (entryOf e) p 8192 (b * 8192) ≡ allAre (frameOf f words) words (requestOf q) (entryOf e) p (8192 - i * 512) (b * 8192 + i * 512))
+
+abbrev μ-loop : tie.MeasureT-loop
+μ-loop f words q e b p i₀ i = 16 - i
+
+loop-holds : tie.Need-loop-holds Inv-loop μ-loop
+loop-holds c =
+    let a = c .before .args in
+    let z : a .b * 8192 ≡ a .b * 8192 + 0 * 512 = omega arith in
+    (omega arith, ap (allAre (frameOf (a .f) (a .words .now)) (a .words .now) (requestOf (a .q)) (entryOf (a .e)) (a .p) 8192) z)
+
+piece-is-requires : tie.Need-piece-is-requires Inv-loop μ-loop
+piece-is-requires c κs = search needs
+
+returns : tie.Need-returns Inv-loop μ-loop
+returns c =
+    let l = c .before .before .before in
+    let a = l .before .before .args in
+    let pre = l .before .before .pre in
+    sym (l .loop .inv .1
+    ∙ pieces-stop (a .f .paw) (a .f .first .0) (length (a .words .now) / 512) (a .words .now) (requestOf (a .q)) (pre .2 .small) (entryOf (a .e)) (pre .3) (a .b) (l .loop .i) (a .p) (omega arith)
+    (sym (c .before .piece-is .ensures) ∙ not-true _ (c .if1 .taken)))
+
+add-i : tie.Need-add-i Inv-loop μ-loop
+add-i c = omega arith
+
+loop-less : tie.Need-loop-less Inv-loop μ-loop
+loop-less c = omega arith
+
+loop-again : tie.Need-loop-again Inv-loop μ-loop
+loop-again c =
+    let l = c .before .before .before in
+    let a = l .before .before .args in
+    let pre = l .before .before .pre in (
+      omega arith,
+      l .loop .inv .1
+          ∙ pieces-next (a .f .paw) (a .f .first .0) (length (a .words .now) / 512) (a .words .now) (requestOf (a .q)) (pre .2 .small) (entryOf (a .e)) (pre .3) (a .b) (l .loop .i) (a .p) (omega arith)
+          (sym (c .before .piece-is .ensures) ∙ not-false _ (c .if1 .left)),
+    )
+
+returns-2 : tie.Need-returns-2 Inv-loop μ-loop
+returns-2 c =
+    let l = c .before in
+    let a = l .before .before .args in
+    let pre = l .before .before .pre in
+    let z : 8192 - l .loop .i * 512 ≡ 0 = omega arith in
+    sym (l .loop .inv .1
+    ∙ all-none (a .f .paw) (a .f .first .0) (length (a .words .now) / 512) (a .words .now) (requestOf (a .q)) (pre .2 .small) (entryOf (a .e)) (pre .3) (a .p) _ (a .b * 8192 + l .loop .i * 512) z)
+
+pub pieces-are-spec : {M : Type 1} → statement M
+pieces-are-spec =
+    tie.close
+    (tie.spec
+    Inv-loop
+    μ-loop
+    loop-holds
+    piece-is-requires
+    returns
+    add-i
+    loop-less
+    loop-again
+    returns-2)

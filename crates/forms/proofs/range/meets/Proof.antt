@@ -1,0 +1,50 @@
+use mathlib.Core.Path.{_≡_, sym, _∙_}
+use mathlib.Core.Bool.{true≢false}
+use Prim.Native.Nat.{ℕ, _+_, _*_, _/_}
+use native.Mathlib.Omega.{arith}
+use lib.Dec.{leb}
+use borrow.Author.Tests.{leb-true, leb-false}
+use Rattle.forms.proofs.Fields.{in-true}
+use Rattle.forms.specs.Kinds.{requestOf}
+use Rattle.laws.proofs.Choices.{split}
+use borrow.Author.Needs.{needs}
+use Rattle.forms.proofs.range.meets.Statement.{statement}
+use Rattle.forms.proofs.range.meets.Tie as tie
+
+add-end : tie.Need-add-end
+add-end c = search needs
+
+add-first : tie.Need-add-first
+add-first c = search needs
+
+add-if1 : tie.Need-add-if1
+add-if1 c = search needs
+
+returns : tie.Need-returns
+returns c = search needs
+
+mul-if2 : tie.Need-mul-if2
+mul-if2 c = search needs
+
+returns-2 : tie.Need-returns-2
+returns-2 c = search needs
+
+mul-if3 : tie.Need-mul-if3
+mul-if3 c = search needs
+
+returns-3 : tie.Need-returns-3
+returns-3 c = search needs
+
+returns-4 : tie.Need-returns-4
+returns-4 c =
+    λ out.
+    let a = c .before .before .before .before .args in
+    let first : ℕ = (a .q .start .0 + 4095) / 4096 in
+    split (leb first (a .s))
+    (λ z. let h = leb-true first (a .s) z in true≢false (sym (in-true (requestOf (a .q)) (a .s) (omega arith) (omega arith)) ∙ out (a .s) (omega arith) (omega arith)))
+    (λ z. let h = leb-false first (a .s) z in true≢false (sym (in-true (requestOf (a .q)) first (omega arith) (omega arith)) ∙ out first (omega arith) (omega arith)))
+
+pub meets-spec : {M : Type 1} → statement M
+meets-spec =
+    tie.close
+    (tie.spec add-end add-first add-if1 returns mul-if2 returns-2 mul-if3 returns-3 returns-4)

@@ -1,0 +1,56 @@
+// A block that is read without an L1 page: its pieces are each of one permission before the edit, and info has them.
+use crate::Form;
+use crate::Request;
+use crate::range::cut;
+use crate::words::splice;
+use table::Entry;
+use table::Frame;
+use table::word::piece;
+ghost use mathlib.Core.Path.{_≡_};
+ghost use mathlib.Core.Bool.{false};
+ghost use Prim.Native.Nat.{_<_, _^_};
+ghost use Rattle.forms.specs.Kinds.{requestOf, formOf, Fair, Even, Mixes};
+ghost use Rattle.model.specs.Forms.{formIn};
+ghost use Rattle.table.specs.Views.{frameOf, entryOf};
+ghost use Rattle.theory.specs.Rooted.{Good};
+
+// A piece with pages in the range and pages outside it becomes mixed, unless it has the asked permission already.
+pub fn mixes(q: Request, b: u64, info: u64, at: u64) -> bool
+    ensures { λ r. ⌜ Mixes (requestOf q) b info at r ⌝ }
+{
+    if at % 512 == 0 {
+        return false;
+    }
+    if at / 8192 != b {
+        return false;
+    }
+    if piece(info, at / 512 % 16) == q.permission {
+        return false;
+    }
+    true
+}
+
+// The finished form of block b. Only a piece that an end of the range cuts can become mixed.
+pub fn even_form(f: Frame, words: &[u64], q: Request, e: Entry, b: u64, info: u64) -> Form
+    requires { ⌜ (b < 512) × Fair q × Good (frameOf f (now words)) (now words) (entryOf e) × (info < 2 ^ 32) × Even (frameOf f (now words)) (now words) (entryOf e) b info ⌝ }
+    ensures { λ r. ⌜ formOf r ≡ formIn (frameOf f (now (words .entry))) (now (words .entry)) (requestOf q) false 0 (entryOf e) b ⌝ }
+{
+    let first = (q.start.0 + 4095) / 4096;
+    let past = (q.start.0 + q.size + 4095) / 4096;
+    if first == past {
+        return Form::Pieces(info);
+    }
+    if mixes(q, b, info, first) {
+        return Form::Table;
+    }
+    if mixes(q, b, info, past) {
+        return Form::Table;
+    }
+    let low = cut((first + 511) / 512, b * 16);
+    let high = cut((past + 511) / 512, b * 16);
+    Form::Pieces(splice(
+        splice(info, q.permission * 0x5555_5555, 2 * low),
+        info,
+        2 * high,
+    ))
+}
