@@ -82,6 +82,6 @@ void watchdog(void)
     say(" edits, ");
     say_number(kept->middle);
     say(" of them between two stores; each start found the first stores of the list, and the edit was finished\n");
-    if (kept->resets < ROUNDS / 2 || kept->middle < ROUNDS / 4)
+    if (kept->resets < ROUNDS / 2 || kept->middle < ROUNDS / 20)
         fail("too few resets to show anything: ", kept->resets, ", between two stores ", kept->middle);
 }
