@@ -10,8 +10,9 @@
 BEGIN {
     # what is known: loads, and what only computes
     loads = "^(lb|lbu|lh|lhu|lw|lwu|ld)$"
-    computes = "^(li|lui|auipc|mv|add|addi|addw|addiw|sub|subw|neg|negw|not|and|andi|or|ori|xor|xori|sll|slli|sllw|slliw|srl|srli|srlw|srliw" \
-        "|sra|srai|sraw|sraiw|slt|slti|sltu|sltiu|seqz|snez|sgtz|sltz|zext\\.b|sext\\.w|mul|mulw|mulhu|mulh|div|divu|rem|remu|divuw|remuw)$"
+    computes = "^(li|lui|auipc|mv|add|addi|addw|addiw|sub|subw|neg|negw|not|and|andi|or|ori|xor|xori|sll|slli|sllw|slliw|srl|srli|srlw" \
+        "|srliw|sra|srai|sraw|sraiw|slt|slti|sltu|sltiu|seqz|snez|sgtz|sltz|zext\\.b|sext\\.w|mul|mulw|mulh|mulhu|mulhsu|div|divu|divw" \
+        "|divuw|rem|remu|remw|remuw)$"
     branches = "^(beq|bne|blt|bge|bltu|bgeu|bgt|ble|bgtu|bleu|beqz|bnez|blez|bgez|bltz|bgtz)$"
     count = split(may, word, " ")
     for (k = 1; k <= count; k++) stores_in[word[k]] = 1
@@ -22,7 +23,11 @@ function has(fact) { return index(facts, " " fact " ") > 0 }
 function drop(fact,   i) { while (i = index(facts, " " fact " ")) facts = substr(facts, 1, i) substr(facts, i + length(fact) + 2) }
 function put(fact, holds) { drop(fact); if (holds) facts = facts fact " " }
 function drop_like(pattern) { while (match(facts, " " pattern " ")) facts = substr(facts, 1, RSTART) substr(facts, RSTART + RLENGTH) }
-function both(a, b,   w, m, k, t) { m = split(a, w, " "); t = " "; for (k = 1; k <= m; k++) if (index(b, " " w[k] " ")) t = t w[k] " "; return t }
+function both(a, b,   w, m, k, t) {
+    m = split(a, w, " "); t = " "
+    for (k = 1; k <= m; k++) if (index(b, " " w[k] " ")) t = t w[k] " "
+    return t
+}
 
 function refuse(message) { if (final) { print "fences: " name ": " message ": " source[line]; bad = 1 } }
 # Where the reading may go on: what holds at a label is what holds on every way to it.

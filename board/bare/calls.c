@@ -31,16 +31,17 @@ uint64_t call(int which, const uint64_t arguments[10])
     return answer;
 }
 
-void set_words(const uint64_t *words)
+void copy_words(uint64_t *to, const uint64_t *from)
 {
-    memcpy(TABLE, words, WORDS * 8);
+    for (int k = 0; k < WORDS; k++)
+        to[k] = from[k];
 }
 
 /* The table must be these words with the first stores of the list made, and no others. */
 void same_words(const uint64_t *words, const struct store *list, uint64_t count)
 {
     static uint64_t wanted[WORDS];
-    memcpy(wanted, words, sizeof wanted);
+    copy_words(wanted, words);
     for (uint64_t k = 0; k < count; k++)
         wanted[list[k].at] = list[k].word;
     for (int k = 0; k < WORDS; k++)
@@ -92,7 +93,7 @@ void check_end(int nth)
     const struct whole *whole = &KEPT->whole[nth];
     for (uint64_t block = 0; block < SPACE_PAGES / BLOCK_PAGES; block++) {
         second_walk(&bench, KEPT->slots[0], block, reads);
-        if (memcmp(reads, whole->reads_after + block * BLOCK_PAGES, BLOCK_PAGES) != 0)
+        if (!same(reads, whole->reads_after + block * BLOCK_PAGES, BLOCK_PAGES))
             fail("does not read as after the uncut edit: the block from ", block * BLOCK_PAGES * PAGE, ", its first page ", reads[0]);
     }
     if (second_free_pages(&bench) != whole->free_after)

@@ -27,7 +27,7 @@ void every_cut(void)
     if (kept->nth < CASES) {
         const struct whole *whole = &kept->whole[kept->nth];
         name[5] = case_names[kept->nth];
-        set_words(whole->before);
+        copy_words(TABLE, whole->before);
         kept->pending = 1;
         trapped_edit(kept->nth, whole->list, whole->count, kept->step, 0);
         fail("the board was not reset: ", kept->step, ", stores ", whole->count);

@@ -1,4 +1,4 @@
-/* Cases C, F, G and H and the open before them, whole, with every store trapped; the calls that store nothing; the stack that each needs. */
+/* Cases C, F, G and H and the open before them, whole, every store trapped; the calls that store nothing; the stack that each needs. */
 #include "test.h"
 
 /* The numbers of document 01's cases, and what follows from them by hand. */
@@ -93,7 +93,7 @@ void every_store(void)
         name[5] = case_names[nth];
         watched.call = name;
         if (begins_after[nth] >= 0)
-            set_words(KEPT->whole[begins_after[nth]].after);
+            copy_words(TABLE, KEPT->whole[begins_after[nth]].after);
         work_out(nth);
         trapped_edit(nth, whole->list, whole->count, NEVER, 1);
         same_words(whole->after, NULL, 0);

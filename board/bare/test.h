@@ -1,10 +1,9 @@
 /* The test that the image makes: cases C, F, G and H of document 01, each store trapped, each cut tried. */
+#include "bytes.h"
 #include "machine.h"
 #include "mpt.h"
 #include "say.h"
 #include "second.h"
-
-#include <string.h>
 
 enum { PAW = 32, FIRST = 0x80000, PAGES = 16, WORDS = PAGES * PAGE_ENTRIES, SPACE_PAGES = 1 << (PAW - 12), SDID = 5 };
 enum { CASES = 4 };
@@ -54,7 +53,7 @@ extern uint64_t deepest[CALLS];
 
 /* calls.c: calls in user mode, and what must hold after an edit. */
 uint64_t call(int which, const uint64_t arguments[10]);
-void set_words(const uint64_t *words);
+void copy_words(uint64_t *to, const uint64_t *from);
 void same_words(const uint64_t *words, const struct store *list, uint64_t count);
 void trapped_edit(int nth, const struct store *list, uint64_t count, uint64_t reset_at, int thorough);
 uint64_t fence_of(const struct edit *edit, const struct store *list, uint64_t count);

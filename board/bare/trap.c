@@ -60,8 +60,10 @@ static void wrong_place(uint64_t address)
     if (watched.made + 1 < watched.count && watched.list[watched.made + 1].at == at)
         fail("left out: word ", due, ", stored is word ", at);
     for (uint64_t k = watched.made; k < watched.count; k++)
-        if (watched.list[k].at == at)
-            fail(watched.list[k].word >> 44 == 4 ? "linked before its page is whole: word " : "out of order: word ", at, ", due is word ", due);
+        if (watched.list[k].at == at && watched.list[k].word >> 44 == 4)
+            fail("linked before its page is whole: word ", at, ", due is word ", due);
+        else if (watched.list[k].at == at)
+            fail("out of order: word ", at, ", due is word ", due);
     fail("a word that is not in the list: ", at, ", due is word ", due);
 }
 
@@ -82,7 +84,7 @@ static void check_reading(uint64_t block, uint64_t from, uint64_t pages)
     static _Alignas(8) uint8_t reads[BLOCK_PAGES];
     const uint8_t *before = watched.before + block * BLOCK_PAGES, *after = watched.after + block * BLOCK_PAGES;
     second_walk(&watched.table, watched.mmpt, block, reads);
-    if (memcmp(reads, before, BLOCK_PAGES) == 0 || memcmp(reads, after, BLOCK_PAGES) == 0)
+    if (same(reads, before, BLOCK_PAGES) || same(reads, after, BLOCK_PAGES))
         return;
     for (uint64_t page = from; page < from + pages; page++)
         if (reads[page] != before[page] && reads[page] != after[page])

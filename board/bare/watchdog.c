@@ -15,7 +15,7 @@ static uint64_t edit(int nth, const struct store *list, uint64_t count)
 static void measure(void)
 {
     for (int nth = 0; nth < CASES; nth++) {
-        set_words(KEPT->whole[nth].before);
+        copy_words(TABLE, KEPT->whole[nth].before);
         uint64_t from = ticks();
         edit(nth, KEPT->whole[nth].list, KEPT->whole[nth].count);
         KEPT->whole[nth].ticks = ticks() - from;
@@ -44,7 +44,7 @@ static void edit_to_the_end(int nth)
     static struct store list[MOST_STORES];
     struct kept *kept = KEPT;
     uint64_t count = second_edit(&bench, &case_edits[nth], list);
-    memcpy(kept->found, TABLE, sizeof kept->found);
+    copy_words(kept->found, TABLE);
     kept->pending = 1;
     __asm__ volatile("fence rw, rw" ::: "memory");
     if (kept->step < CUTS)
@@ -70,7 +70,7 @@ void watchdog(void)
             check_cut(nth);
             kept->step++;
         } else {
-            set_words(kept->whole[nth].before);
+            copy_words(TABLE, kept->whole[nth].before);
             kept->step = 0;
         }
         edit_to_the_end(nth);
@@ -82,6 +82,6 @@ void watchdog(void)
     say(" edits, ");
     say_number(kept->middle);
     say(" of them between two stores; each start found the first stores of the list, and the edit was finished\n");
-    if (kept->resets < ROUNDS / 2 || kept->middle < ROUNDS / 4)
+    if (kept->resets < ROUNDS / 2 || kept->middle < ROUNDS / 20)
         fail("too few resets to show anything: ", kept->resets, ", between two stores ", kept->middle);
 }

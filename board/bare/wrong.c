@@ -34,6 +34,8 @@ uint64_t __wrap_mpt_edit(uint64_t paw, uint64_t first, uint64_t *words, size_t s
     for (uint64_t k = 0; k < watched.count; k++) {
         if (WRONG == 4 && k == 99) /* one word left out */
             continue;
+        if (WRONG == 6 && k + 1 == watched.count && KEPT->resets > 0) /* the last word left out, once there has been a reset */
+            continue;
         store(&watched.list[place(k, watched.count)]);
         if (WRONG == 5 && k == 99) /* one word twice */
             store(&watched.list[k]);

@@ -1,7 +1,7 @@
 /* "The stores, in order, block by block upward through the touched GiBs." */
 #include "second.h"
 
-#include <string.h>
+#include "bytes.h"
 
 /* A list as it grows. */
 struct lister {
@@ -32,17 +32,6 @@ static uint64_t next_new_page(struct lister *lister)
     while (!second_page_is_free(lister->table, lister->new_from))
         lister->new_from++;
     return lister->new_from++;
-}
-
-/* Whether all the permissions are one; they are whole pieces of 2 MiB. */
-static int all_one(const uint8_t *permissions, size_t count)
-{
-    _Alignas(8) uint8_t piece[512];
-    memset(piece, permissions[0], sizeof piece);
-    for (size_t k = 0; k < count; k += sizeof piece)
-        if (memcmp(permissions + k, piece, sizeof piece) != 0)
-            return 0;
-    return 1;
 }
 
 /* Sixteen fields of four bits, the lowest page first. */

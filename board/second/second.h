@@ -23,7 +23,7 @@ struct edit {
     uint64_t slot, start, length, permission;
 };
 
-/* "The walk", outside M mode, for every page of a block: its permission, or FAULT. */
+/* "The walk", outside M mode, for every page of a block: its permission, or FAULT. The bytes are aligned to eight. */
 void second_walk(const struct table *table, uint64_t mmpt, uint64_t block, uint8_t reads[BLOCK_PAGES]);
 
 int second_page_is_free(const struct table *table, uint64_t page);

@@ -1,6 +1,6 @@
 #include "second.h"
 
-#include <string.h>
+#include "bytes.h"
 
 static int is_lent(const struct table *table, uint64_t page)
 {
@@ -28,14 +28,14 @@ void second_walk(const struct table *table, uint64_t mmpt, uint64_t block, uint8
     uint64_t entry = is_lent(table, root) ? word_of(table, root, block) : ~UINT64_C(0);
     uint64_t info = entry & ((UINT64_C(1) << 44) - 1), type = entry >> 44 & 7;
     if (entry >> 47 == 0 && type < 4 && info == 0)
-        memset(reads, type, BLOCK_PAGES);
+        fill(reads, type, BLOCK_PAGES);
     else if (entry >> 47 == 0 && type == 4 && is_lent(table, info))
         walk_page(table, info, reads);
     else if (entry >> 47 == 0 && type == 6 && info >> 32 == 0)
         for (int piece = 0; piece < 16; piece++)
-            memset(reads + piece * 512, info >> piece * 2 & 3, 512);
+            fill(reads + piece * 512, info >> piece * 2 & 3, 512);
     else
-        memset(reads, FAULT, BLOCK_PAGES);
+        fill(reads, FAULT, BLOCK_PAGES);
 }
 
 /* "A page is free if it is no open slot's root and no such entry names it." */

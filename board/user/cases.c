@@ -4,8 +4,6 @@
 #include "say.h"
 #include "second.h"
 
-#include <string.h>
-
 enum { PAW = 32, FIRST = 0x80000, PAGES = 16, LIMIT = 1536 };
 static uint64_t words[PAGES * PAGE_ENTRIES], slots[8];
 static size_t count;
@@ -42,8 +40,10 @@ static void memory(const char *after)
 static void new_domain(size_t pages)
 {
     count = pages * PAGE_ENTRIES;
-    memset(words, 0x33, sizeof words);
-    memset(slots, 0, sizeof slots);
+    for (int k = 0; k < PAGES * PAGE_ENTRIES; k++)
+        words[k] = UINT64_C(0x3333333333333333);
+    for (int k = 0; k < 8; k++)
+        slots[k] = 0;
     slots[0] = mpt_open(PAW, FIRST, words, count, slots, 0, 5);
 }
 

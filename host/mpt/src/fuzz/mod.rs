@@ -81,16 +81,9 @@ impl Fuzz {
             let call = any_call(random, place, &slots);
             let got = self.subject_call(place, count, high, &call);
             let want = other_call(SECOND, place, &mut words, &mut slots, &call);
-            if got != want {
-                return Err(format!("{place:x?}, {count} words: {call:x?}: answers {got:x?}, and not {want:x?}"));
-            }
-            let memory = self.memory.words(count, high);
-            if let Some(at) = (0..count).find(|&at| memory[at] != words[at]) {
-                let (got, want) = (memory[at], words[at]);
-                return Err(format!("{place:x?}, {count} words: {call:x?}: word {at} is {got:#x}, and not {want:#x}"));
-            }
-            if self.slots.words(8, high) != slots {
-                return Err(format!("{place:x?}, {count} words: {call:x?}: the slots differ"));
+            let after = (self.memory.words(count, high), self.slots.words(8, high));
+            if let Some(how) = difference((got, after.0, after.1), (want, &words, &slots)) {
+                return Err(format!("{place:x?}, {count} words: {call:x?}: {how}"));
             }
         }
         Ok(calls)
@@ -161,53 +154,40 @@ fn other_call(program: Program, place: Place, words: &mut [u64], slots: &mut [u6
     [code, made[0], made[1], made[2], made[3], made[4]]
 }
 
+/// How two programs differ after a call: in their answers, their words or their slots.
+fn difference(got: ([u64; 6], &[u64], &[u64]), want: ([u64; 6], &[u64], &[u64])) -> Option<String> {
+    let first = |what, got: &[u64], want: &[u64]| {
+        let at = (0..want.len()).find(|&at| got[at] != want[at])?;
+        Some(format!("{what} {at} is {:#x}, and the second program's {:#x}", got[at], want[at]))
+    };
+    first("the answer's part", &got.0, &want.0)
+        .or_else(|| first("word", got.1, want.1))
+        .or_else(|| first("slot", got.2, want.2))
+}
+
 #[cfg(test)]
 mod tests {
     use super::*;
-    use mpt_monitor::Interface;
 
-    /// Plain, with a slip where an edit has a limit of 0.
-    struct Slip;
-
-    impl Interface for Slip {
-        fn lookup(&self, a: u64, b: u64, c: &[u64], d: u64, e: u64, f: u64, g: u64) -> u64 {
-            PLAIN.interface.lookup(a, b, c, d, e, f, g)
-        }
-
-        fn open(&self, a: u64, b: u64, c: &mut [u64], d: &mut [u64; 8], e: u64, f: u64) -> u64 {
-            PLAIN.interface.open(a, b, c, d, e, f)
-        }
-
-        fn close(&self, a: u64, b: u64, c: &[u64], d: &mut [u64; 8], e: u64, f: &mut [u64; 3]) -> u64 {
-            PLAIN.interface.close(a, b, c, d, e, f)
-        }
-
-        fn edit(
-            &self,
-            a: u64,
-            b: u64,
-            c: &mut [u64],
-            d: &[u64; 8],
-            e: u64,
-            f: u64,
-            g: u64,
-            h: u64,
-            i: u64,
-            j: &mut [u64; 5],
-        ) -> u64 {
-            PLAIN.interface.edit(a, b, c, d, e, f, g, h, i.max(1), j)
-        }
-
-        fn sound(&self, a: u64, b: u64, c: &[u64], d: &[u64; 8]) -> u64 {
-            PLAIN.interface.sound(a, b, c, d)
-        }
+    #[test]
+    fn plain_passes() {
+        let mut fuzz = Fuzz::new(PLAIN);
+        assert_eq!((0..2000).find_map(|round| fuzz.round(&mut Random::new(1, round)).err()), None);
     }
 
     #[test]
-    fn a_slip_is_found_and_the_right_program_passes() {
-        let (mut right, mut slip) = (Fuzz::new(PLAIN), Fuzz::new(Program { name: "slip", interface: &Slip }));
-        let rounds = 0..3000;
-        assert_eq!(rounds.clone().find_map(|round| right.round(&mut Random::new(1, round)).err()), None);
-        assert!(rounds.clone().any(|round| slip.round(&mut Random::new(1, round)).is_err()));
+    fn a_difference_is_named() {
+        let want = ([1, 2, 3, 4, 5, 6], vec![7; 512], vec![8; 8]);
+        let named = |got: &([u64; 6], Vec<u64>, Vec<u64>)| {
+            difference((got.0, &got.1, &got.2), (want.0, &want.1, &want.2)).unwrap_or_default()
+        };
+        let mut got = want.clone();
+        assert_eq!(named(&got), "");
+        got.2[7] = 9;
+        assert!(named(&got).starts_with("slot 7 is 0x9, "));
+        got.1[511] = 9;
+        assert!(named(&got).starts_with("word 511 is 0x9, "));
+        got.0[2] = 9;
+        assert!(named(&got).starts_with("the answer's part 2 is 0x9, "));
     }
 }
