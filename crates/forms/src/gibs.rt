@@ -83,8 +83,9 @@ pub fn gib_at(f: Frame, words: &[u64], q: Request, root: PageNumber, b: u64, gib
     gib
 }
 
-// 1 for a block that takes a new page, 0 for any other. The GiB need not be known: no block of a GiB of one permission has mixed pieces.
-pub fn new_page(f: Frame, words: &[u64], q: Request, root: PageNumber, b: u64) -> u64
+// 1 for a block that takes a new page, 0 for any other, from its entry. The GiB need not be known: no block of a GiB of one permission
+// has mixed pieces.
+pub fn read_page(f: Frame, words: &[u64], q: Request, root: PageNumber, b: u64) -> u64
     requires { ⌜ Rooted (frameOf f (now words)) (now words) (root .0) × (b < blocks (frameOf f (now words))) × Fair q ⌝ }
     ensures { λ r. ⌜ r ≡ (if needsPage (formIn (frameOf f (now (words .entry))) (now (words .entry)) (requestOf q) false 0
         (entryAt (frameOf f (now (words .entry))) (now (words .entry)) (root .0) b) b)
@@ -98,6 +99,20 @@ pub fn new_page(f: Frame, words: &[u64], q: Request, root: PageNumber, b: u64) -
         return 1;
     }
     0
+}
+
+// The same; a block inside the range takes none, and is not read.
+pub fn new_page(f: Frame, words: &[u64], q: Request, root: PageNumber, b: u64) -> u64
+    requires { ⌜ Rooted (frameOf f (now words)) (now words) (root .0) × (b < blocks (frameOf f (now words))) × Fair q ⌝ }
+    ensures { λ r. ⌜ r ≡ (if needsPage (formIn (frameOf f (now (words .entry))) (now (words .entry)) (requestOf q) false 0
+        (entryAt (frameOf f (now (words .entry))) (now (words .entry)) (root .0) b) b)
+        (entryAt (frameOf f (now (words .entry))) (now (words .entry)) (root .0) b) then 1 else 0) ⌝ }
+{
+    match lies(q, b * 8192, 8192) {
+        Place::Inside => 0,
+        Place::Outside => read_page(f, words, q, root, b),
+        Place::Across => read_page(f, words, q, root, b),
+    }
 }
 
 // How many new pages the whole edit takes: only the blocks at the two ends of the range can take one.

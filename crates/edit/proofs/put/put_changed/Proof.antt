@@ -1,4 +1,5 @@
 use mathlib.Core.Path.{_≡_, sym, ap, _∙_}
+use lib.ListN.{getD}
 use borrow.Author.Tests.{eq-eqb, ne-eqb}
 use borrow.Author.Needs.{needs}
 use Rattle.edit.proofs.Runs.{run-none}
@@ -14,7 +15,10 @@ slice-read-if1 : tie.Need-slice-read-if1
 slice-read-if1 c = search needs
 
 returns : tie.Need-returns
-returns c = rw (eq-eqb _ _ (c .if1 .taken)) (sym (run-none _ _))
+returns c =
+    let a = c .before .before .args in
+    let same : getD (a .words .now) (a .at) 0 ≡ a .word = c .if1 .taken in
+    rw (eq-eqb _ _ same) (sym (run-none _ _))
 
 put-requires : tie.Need-put-requires
 put-requires c κs = search needs

@@ -1,6 +1,7 @@
 use mathlib.Core.Path.{_≡_, sym, ap, _∙_}
 use Prim.Native.Nat.{_-_}
 use native.Mathlib.Omega.{arith}
+use lib.ListN.{getD}
 use borrow.Author.Tests.{eq-eqb, ne-eqb}
 use Rattle.edit.proofs.Runs.{run-none, run-one}
 use Rattle.edit.specs.Run.{whole}
@@ -19,7 +20,10 @@ slice-read-if1 : tie.Need-slice-read-if1
 slice-read-if1 c = search needs
 
 returns : tie.Need-returns
-returns c = rw (eq-eqb _ _ (c .if1 .taken)) (sym (run-none _ _))
+returns c =
+    let a = c .before .before .args in
+    let same : getD (a .words .now) (a .at) 0 ≡ a .word = c .if1 .taken in
+    rw (eq-eqb _ _ same) (sym (run-none _ _))
 
 store-word-requires : tie.Need-store-word-requires
 store-word-requires c κs = search needs

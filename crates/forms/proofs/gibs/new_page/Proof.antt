@@ -1,74 +1,71 @@
-use mathlib.Core.Path.{_≡_, refl, sym, ap, ap₂, _∙_, subst}
-use mathlib.Core.Bool.{false}
-use native.Mathlib.Omega.{arith}
-use borrow.Author.Tests.{not-true}
-use Rattle.forms.proofs.CountLaws.{table-none}
+use mathlib.Core.Path.{_≡_, ap}
+use Prim.Native.Nat.{_/_}
+use lib.ListN.{length}
+use Rattle.forms.proofs.FormLaws.{form-inside}
 use Rattle.forms.specs.Kinds.{requestOf}
-use Rattle.model.specs.Entry.{Entry}
-use Rattle.model.specs.Forms as model
+use Rattle.model.specs.Forms.{Form}
+use Rattle.model.specs.Numbers.{if_then_else_}
 use Rattle.model.specs.Stores.{needsPage}
-use Rattle.model.specs.Walk as walk
-use Rattle.table.specs.Views.{frameOf, entryOf}
-use Rattle.theory.specs.Rooted.{Good}
+use Rattle.model.specs.Walk.{entryAt}
+use Rattle.table.specs.Views.{frameOf}
 use borrow.Author.Needs.{needs}
 use Rattle.forms.proofs.gibs.new_page.Statement.{statement}
 use Rattle.forms.proofs.gibs.new_page.Tie as tie
 use Rattle.forms.proofs.gibs.new_page.Reads as reads
 use Rattle.forms.proofs.gibs.new_page.Lts as lts
-use Rattle.forms.proofs.blocks.block_form.Reads as block-form-reads
-use Rattle.forms.proofs.blocks.entry_at.Reads as entry-at-reads
-use Rattle.forms.proofs.blocks.needs_page.Reads as needs-page-reads
+use Rattle.forms.proofs.gibs.read_page.Reads as read-page-reads
+use Rattle.forms.proofs.range.lies.Reads as lies-reads
 
-need-here : (c : tie.After-needs-page2) → let a = c .before .before .before .before .before .before .args in
-    c .needs-page2 .result ≡ needsPage (model.formIn (frameOf (a .f) (a .words .now)) (a .words .now) (requestOf (a .q)) false 0 (walk.entryAt (frameOf (a .f) (a .words .now)) (a .words .now) (a .root .0) (a .b)) (a .b)) (walk.entryAt (frameOf (a .f) (a .words .now)) (a .words .now) (a .root .0) (a .b))
-need-here c =
-    let a = c .before .before .before .before .before .before .args in
-    let ea = c .before .before .before .before .entry-at .ensures in
-    c .needs-page2 .ensures
-    ∙ ap₂ (λ (x : model.Form) (e : Entry). needsPage x e)
-    (c .before .block-form .ensures ∙ ap (λ (e : Entry). model.formIn (frameOf (a .f) (a .words .now)) (a .words .now) (requestOf (a .q)) false 0 e (a .b)) ea) ea
+mul-lies : tie.Need-mul-lies
+mul-lies c = search needs
 
--- src/gibs.rt:86:9
-entry-at-requires : tie.Need-entry-at-requires
-entry-at-requires c κs = search needs
+lies-requires : tie.Need-lies-requires
+lies-requires c κs = search needs
 
--- src/gibs.rt:87:9
-needs-page-requires : tie.Need-needs-page-requires
-needs-page-requires c κs = search needs
+enum-told : tie.Need-enum-told
+enum-told c = search needs
 
--- src/gibs.rt:88:9
+enum-told-2 : tie.Need-enum-told-2
+enum-told-2 c = search needs
+
+read-page-requires : tie.Need-read-page-requires
+read-page-requires c κs = search needs
+
+enum-told-3 : tie.Need-enum-told-3
+enum-told-3 c = search needs
+
+read-page-requires-2 : tie.Need-read-page-requires-2
+read-page-requires-2 c κs = search needs
+
 returns : tie.Need-returns
-returns c = let ea = c .before .before .entry-at .ensures in
-    rw (table-none _ (model.formIn _ _ _ false 0 _ _) (ap (needsPage model.wantTable) (sym ea) ∙ sym (c .before .needs-page .ensures) ∙ not-true _ (c .if1 .taken)))
+unfolding needsPage
+returns c =
+    let l = c .before .before in
+    let s = l .before .before in
+    let a = s .args in
+    let F = frameOf (a .f) (a .words .now) in
+    let e = entryAt F (a .words .now) (a .root .0) (a .b) in
+    ap (λ (x : Form). if needsPage x e then 1 else 0)
+    (form-inside (a .f .paw) (a .f .first .0) (length (a .words .now) / 512) (a .words .now) (requestOf (a .q)) (s .pre .2 .small) e (s .pre .0 .good (a .b) (s .pre .1)) (a .b)
+    (rw (c .enum-told .given .1) at (l .lies .ensures)))
 
--- src/gibs.rt:90:19
-block-form-requires : tie.Need-block-form-requires
-block-form-requires c κs = let s = c .before .before .before .before in (
-  omega (arith, s .pre .0 .few, s .pre .1),
-  s .pre .2,
-  subst (Good (frameOf (s .args .f) (s .args .words .now)) (s .args .words .now)) (sym (c .before .before .entry-at .ensures)) (s .pre .0 .good (s .args .b) (s .pre .1)),
-)
-
--- src/gibs.rt:90:8
-needs-page-requires-2 : tie.Need-needs-page-requires-2
-needs-page-requires-2 c κs = search needs
-
--- src/gibs.rt:91:9
 returns-2 : tie.Need-returns-2
-returns-2 c = rw (sym (need-here (c .before)) ∙ c .if2 .taken)
+returns-2 c = search needs
 
--- src/gibs.rt:80:1
 returns-3 : tie.Need-returns-3
-returns-3 c = rw (sym (need-here (c .before)) ∙ c .if2 .left)
+returns-3 c = search needs
 
 pub new-page-spec : {M : Type 1} → statement M
 new-page-spec =
     tie.close
     (tie.spec
-    entry-at-requires
-    needs-page-requires
+    mul-lies
+    lies-requires
+    enum-told
+    enum-told-2
+    read-page-requires
+    enum-told-3
+    read-page-requires-2
     returns
-    block-form-requires
-    needs-page-requires-2
     returns-2
     returns-3)
