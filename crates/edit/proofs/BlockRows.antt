@@ -23,7 +23,7 @@ use Rattle.table.specs.Views.{frameOf}
 use Rattle.theory.proofs.Entries.{Small, decode-small, rv64-lawful}
 use Rattle.theory.specs.Rooted.{Good}
 use Rattle.edit.proofs.PiecesBlock.{info-stores, flat-form, pieces-form}
-use Rattle.edit.proofs.Places.{changed-l2}
+use Rattle.edit.proofs.Places.{changed-l2, index-next}
 use Rattle.table.specs.declared.Frame as code
 
 module _ (F : Frame) (m : List ℕ) (q : Request) (root : ℕ) (gib : Gib) where
@@ -44,10 +44,6 @@ module _ (F : Frame) (m : List ℕ) (q : Request) (root : ℕ) (gib : Gib) where
     pub stores : (new : ℕ) → storesAt F m q root gib c new ≡ ifChangedL2 F m root c (to (l2Word F m root c))
     pub page : needsPage (formAt F m q root gib c) (entryAt F m root c) ≡ false
 
-  index-next : (b : ℕ) → suc (indexOf F root b) ≡ indexOf F root (suc b)
-  unfolding indexOf
-  index-next b = omega arith
-
   module _ (to : ℕ → ℕ) where
     pub row-stores : (n b : ℕ) (fr : List ℕ) → ((c : ℕ) → b ≤ c → c < b + n → Entrywise to c) → storesOver F m q root gib n b fr ≡ rowStores m to n (indexOf F root b)
     unfolding storesFrom formsIn joined l2Word wordAt entryPage entryPlace
@@ -56,7 +52,7 @@ module _ (F : Frame) (m : List ℕ) (q : Request) (root : ℕ) (gib : Gib) where
         let e : Entrywise to b = h b (omega arith) (omega arith) in
         ap₂ (λ (x y : List Store). x ++ y)
         (e .stores (headD fr 0) ∙ sym (changed-l2 F m root b (to (l2Word F m root b)) (indexOf F root b) refl))
-        (rw (e .page) (row-stores n (suc b) fr (λ c lo hi. h c (omega arith) (omega arith))) ∙ ap (joined (changeAt m to) n) (sym (index-next b)))
+        (rw (e .page) (row-stores n (suc b) fr (λ c lo hi. h c (omega arith) (omega arith))) ∙ ap (joined (changeAt m to) n) (sym (index-next F root b)))
 
     pub row-pages : (n b : ℕ) → ((c : ℕ) → b ≤ c → c < b + n → Entrywise to c) → pagesOver F m q root gib n b ≡ 0
     unfolding newPages formsIn

@@ -1,16 +1,19 @@
 -- A block that gets a new L1 page: its entries one after another, and the link at the end.
-use mathlib.Core.Path.{_≡_, refl, sym, ap, _∙_, subst}
-use mathlib.Core.Bool.{true}
+use mathlib.Core.Path.{_≡_, refl, sym, ap, ap₂, _∙_, subst}
+use mathlib.Core.Bool.{true, false}
 use mathlib.Core.List.{List, [], _∷_, _++_}
-use Prim.Native.Nat.{ℕ, _+_, _-_, _≤_, _<_}
+use Prim.Native.Nat.{ℕ, zero, suc, _+_, _-_, _*_, _/_, _≤_, _<_}
 use native.Mathlib.Omega.{arith}
 use lib.ListN.{length}
 use Rattle.edit.proofs.Runs.{run-none, run-on, run-off, run-whole, joined-turn, joined-end}
 use Rattle.edit.specs.Kinds.{Plain, newRun}
+use Rattle.edit.specs.Rows.{fillStores}
 use Rattle.edit.specs.Run.{Out, whole, cut, run}
 use Rattle.edit.specs.declared.Budget.{Budget}
-use Rattle.model.specs.Entry.{Entry}
-use Rattle.model.specs.Forms.{Request, l1Word}
+use Rattle.forms.proofs.EntryLaws.{word-outside}
+use Rattle.forms.specs.Kinds.{spreadOf}
+use Rattle.model.specs.Entry.{Entry, flat}
+use Rattle.model.specs.Forms.{Request, inRange, l1Word}
 use Rattle.model.specs.Frame.{Frame, lent, indexOf}
 use Rattle.model.specs.Numbers.{joined}
 use Rattle.model.specs.Stores.{Store, storeAt, storeL2, newTable}
@@ -19,7 +22,7 @@ use Rattle.table.specs.Stored.{storeOf}
 use Rattle.table.specs.Views.{frameOf}
 use Rattle.theory.specs.Rooted.{Good}
 use Rattle.edit.proofs.Joined.{joined-append, joined-cong}
-use Rattle.edit.proofs.Places.{Put, frame-same, good-plain, l1-plain, put-one, store-at}
+use Rattle.edit.proofs.Places.{Put, frame-same, good-plain, index-next, l1-plain, put-one, store-at}
 use Rattle.table.specs.declared.Frame as code
 
 module _ (f : code.Frame) (q : Request) (e : Entry) (b new : ℕ) (m0 : List ℕ) (left : Budget) (from to : ℕ) where
@@ -105,3 +108,18 @@ link-end f root b w left ss m l m′ o at e len said z =
     said
     ∙ ap (λ (ts : List Store). run l ts m′) (store-at (frameOf f m′) root b w at z ∙ ap (λ (X : Frame). storeAt X root b w ∷ []) (frame-same f m′ m len))
     ∙ sym (run-on left ss m e (storeAt (frameOf f m) root b w ∷ []))
+
+-- ---- entries outside the range, of a block of one permission: all are the same word
+
+module _ (f : code.Frame) (m : List ℕ) (q : Request) (low : q .permission < 4) (p : ℕ) (small : p < 4) (b new : ℕ) where
+  pub fill-run : (n i : ℕ) → i + n ≤ 512 → ((k : ℕ) → b * 8192 + i * 16 ≤ k → k < b * 8192 + i * 16 + n * 16 → inRange q k ≡ false)
+      → fillStores (spreadOf p) n (indexOf (frameOf f m) new i) ≡ newRun (frameOf f m) m q (flat p) b new n i
+  unfolding joined
+  fill-run zero i h o = refl
+  fill-run (suc n) i h o =
+      let word : spreadOf p ≡ l1Word (frameOf f m) m q (flat p) b i
+      = word-outside (f .paw) (f .first .0) (length m / 512) m q low (flat p) small b i (omega arith) (omega arith) (λ k lo hi. o k lo (omega arith)) in
+      let next : suc (indexOf (frameOf f m) new i) ≡ indexOf (frameOf f m) new (suc i) = index-next (frameOf f m) new i in
+      ap₂ (λ (x y : List Store). x ++ y)
+      (store-at (frameOf f m) new i (spreadOf p) (indexOf (frameOf f m) new i) refl ∙ ap (λ (w : ℕ). storeAt (frameOf f m) new i w ∷ []) word)
+      (ap (fillStores (spreadOf p) n) next ∙ fill-run n (suc i) (omega arith) (λ k lo hi. o k (omega arith) (omega arith)))

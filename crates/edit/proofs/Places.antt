@@ -2,7 +2,7 @@
 use mathlib.Core.Path.{_≡_, refl, sym, ap, ap₂, _∙_, subst}
 use mathlib.Core.Bool.{true}
 use mathlib.Core.List.{List, [], _∷_}
-use Prim.Native.Nat.{ℕ, _+_, _*_, _/_, _%_, _<_}
+use Prim.Native.Nat.{ℕ, suc, _+_, _*_, _/_, _%_, _<_}
 use native.Mathlib.Nat.{zero-add}
 use native.Mathlib.Omega.{arith}
 use lib.Dec.{eqb, ltb}
@@ -37,6 +37,11 @@ frame-same f m m′ e = ap (λ (n : ℕ). record { layout = rv64; paw = f .paw; 
 pub changed-at : (F : Frame) (m : List ℕ) (p i w at : ℕ) → at ≡ indexOf F p i → (if eqb (getD m at 0) w then [] else storeOf at w ∷ []) ≡ ifChanged F m p i w
 unfolding ifChanged wordAt storeAt
 changed-at F m p i w at e = ap (λ (k : ℕ). if eqb (getD m k 0) w then [] else storeOf k w ∷ []) e
+
+-- the entry behind it stands at the next word
+pub index-next : (F : Frame) (p i : ℕ) → suc (indexOf F p i) ≡ indexOf F p (suc i)
+unfolding indexOf
+index-next F p i = omega arith
 
 -- an L2 entry of the root
 pub changed-l2 : (F : Frame) (m : List ℕ) (root b w at : ℕ) → at ≡ indexOf F root b → (if eqb (getD m at 0) w then [] else storeOf at w ∷ []) ≡ ifChangedL2 F m root b w

@@ -9,7 +9,7 @@ use lib.ListN.{length, getD, length-set}
 use lib.Seq.{getD-set-other}
 use borrow.Author.Tests.{eqb-true, eqb-false}
 use Rattle.edit.specs.Run.{Out, whole, cut, out, run}
-use Rattle.edit.specs.Rows.{changeAt, rowStores}
+use Rattle.edit.specs.Rows.{changeAt, rowStores, fillStores}
 use Rattle.edit.specs.declared.Budget.{Budget}
 use Rattle.laws.proofs.Choices.{split}
 use Rattle.model.specs.Numbers.{if_then_else_, joined}
@@ -84,6 +84,30 @@ module _ (to : ℕ → ℕ) (m0 : List ℕ) (left : Budget) (at : ℕ) where
         ∙ sym (ap (λ (k : ℕ). run left (rowStores m0 to k at) m0) u
         ∙ ap (λ (l : List Store). run left l m0) (joined-append (changeAt m0 to) (i + 1) (n - (i + 1)) at)
         ∙ run-off left (rowStores m0 to (i + 1) at) m0 (sym z ∙ row-said) (rowStores m0 to (n - (i + 1)) (at + (i + 1))))
+
+-- ---- words that are all stored
+
+module _ (word : ℕ) (m0 : List ℕ) (left : Budget) (at : ℕ) where
+  pub record Filled (m : List ℕ) (rest : Budget) (i : ℕ) : Type 0 where
+    pub size : length m ≡ length m0
+    pub done : whole rest m ≡ run left (fillStores word i at) m0
+    pub count : rest .more + i ≡ left .more
+
+  pub fill-start : Filled m0 left 0
+  unfolding joined
+  fill-start = record { size = refl; done = sym (run-none left m0); count = omega arith }
+
+  pub fill-next : (m : List ℕ) (rest : Budget) (i : ℕ) → Filled m rest i → (l : Budget) (m′ : List ℕ) → whole l m′ ≡ run rest (storeOf (at + i) word ∷ []) m → Filled m′ l (i + 1)
+  unfolding joined apply
+  fill-next m rest i s l m′ e =
+      let k = run-whole rest (storeOf (at + i) word ∷ []) m l m′ (sym e) in
+      record {
+        size = ap (λ (x : List ℕ). length x) (k .1) ∙ length-set m (at + i) word ∙ s .size;
+        done = e
+            ∙ sym (run-on left (fillStores word i at) m0 (s .done) (storeOf (at + i) word ∷ []))
+            ∙ sym (ap (λ (x : List Store). run left x m0) (joined-append (λ j. storeOf j word ∷ []) i 1 at));
+        count = omega (arith, k .0, s .count);
+      }
 
 -- a row of no entries changes nothing
 pub row-none : (to : ℕ → ℕ) (m0 : List ℕ) (left : Budget) (at n : ℕ) → n ≡ 0 → (all : Bool) (l : Budget) (m : List ℕ) → out all l m ≡ run left (rowStores m0 to n at) m0 → m ≡ m0

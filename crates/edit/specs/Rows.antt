@@ -23,6 +23,10 @@ changeAt m to k = if eqb (getD m k 0) (to (getD m k 0)) then [] else storeOf k (
 abbrev pub rowStores : List ℕ → (ℕ → ℕ) → ℕ → ℕ → List stores.Store
 rowStores m to n at = joined (changeAt m to) n at
 
+-- those of n words from at that are all stored
+abbrev pub fillStores : ℕ → ℕ → ℕ → List stores.Store
+fillStores word n at = joined (λ k. storeOf k word ∷ []) n at
+
 -- the TYPE 6 entry that says the same as an entry without an L1 page; zero for any other
 abbrev pub piecesOf : entry.Entry → ℕ
 piecesOf (entry.flat p) = 0x6000_0000_0000 + p * 0x5555_5555

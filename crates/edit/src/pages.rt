@@ -3,6 +3,7 @@ use crate::Budget;
 use crate::Went;
 use crate::put::put;
 use crate::put::put_changed;
+use crate::rows::fill;
 use forms::Place;
 use forms::Request;
 use forms::range::first_entry;
@@ -11,6 +12,7 @@ use forms::range::past_entry;
 use forms::words::after_word;
 use forms::words::old_word;
 use forms::words::page_at;
+use forms::words::spread;
 use table::Entry;
 use table::Frame;
 use table::PageNumber;
@@ -174,8 +176,8 @@ pub fn new_entries(
     }
 }
 
-// The same for entries outside the range.
-pub fn old_entries(
+// The same for entries outside the range, one by one.
+pub fn old_loop(
     f: Frame,
     words: &mut [u64],
     q: Request,
@@ -203,6 +205,61 @@ pub fn old_entries(
     Went {
         all: true,
         left: more,
+    }
+}
+
+// The same in a block of one permission, p: where the limit allows for all of them, they are filled without asking at each.
+pub fn old_fill(
+    f: Frame,
+    words: &mut [u64],
+    q: Request,
+    e: Entry,
+    b: u64,
+    new: PageNumber,
+    from: u64,
+    to: u64,
+    p: u64,
+    left: Budget,
+) -> Went
+    requires { ⌜ (b < 512) × (to ≤ 512) × (from ≤ to) × Fair q × Good (frameOf f (now words)) (now words) (entryOf e) × (lent (frameOf f (now words)) (new .0) ≡ true) × Plain (entryOf e)
+        × Lies (requestOf q) (b * 8192 + from * 16) ((to - from) * 16) Place.Outside × (entryOf e ≡ entry.flat p) ⌝ }
+    ensures { λ r. ⌜ out (r .all) (r .left) (now (words .exit))
+        ≡ run left (newRun (frameOf f (now (words .entry))) (now (words .entry)) (requestOf q) (entryOf e) b (new .0) (to - from) from) (now (words .entry)) ⌝ }
+{
+    let n = to - from;
+    if left.more < n {
+        return old_loop(f, words, q, e, b, new, from, to, left);
+    }
+    let at = page_at(f, words, new) + from as usize;
+    let rest = fill(words, at, n as usize, spread(p), left);
+    Went {
+        left: rest,
+        all: true,
+    }
+}
+
+// The same in any block.
+pub fn old_entries(
+    f: Frame,
+    words: &mut [u64],
+    q: Request,
+    e: Entry,
+    b: u64,
+    new: PageNumber,
+    from: u64,
+    to: u64,
+    left: Budget,
+) -> Went
+    requires { ⌜ (b < 512) × (to ≤ 512) × (from ≤ to) × Fair q × Good (frameOf f (now words)) (now words) (entryOf e) × (lent (frameOf f (now words)) (new .0) ≡ true) × Plain (entryOf e)
+        × Lies (requestOf q) (b * 8192 + from * 16) ((to - from) * 16) Place.Outside ⌝ }
+    ensures { λ r. ⌜ out (r .all) (r .left) (now (words .exit))
+        ≡ run left (newRun (frameOf f (now (words .entry))) (now (words .entry)) (requestOf q) (entryOf e) b (new .0) (to - from) from) (now (words .entry)) ⌝ }
+{
+    match e {
+        Entry::Flat(p) => old_fill(f, words, q, e, b, new, from, to, p, left),
+        Entry::Pieces(_) => old_loop(f, words, q, e, b, new, from, to, left),
+        Entry::Table(_) => old_loop(f, words, q, e, b, new, from, to, left),
+        Entry::Invalid => old_loop(f, words, q, e, b, new, from, to, left),
     }
 }
 

@@ -7,7 +7,7 @@ ghost use mathlib.Core.List.{[], _∷_};
 ghost use Prim.Native.Nat.{_<_};
 ghost use lib.Dec.{eqb};
 ghost use lib.ListN.{length, getD};
-ghost use Rattle.edit.specs.Run.{out, run};
+ghost use Rattle.edit.specs.Run.{whole, out, run};
 ghost use Rattle.table.specs.Stored.{storeOf};
 ghost use Rattle.model.specs.Numbers.{if_then_else_};
 
@@ -31,6 +31,19 @@ pub fn put(words: &mut [u64], left: Budget, at: usize, word: u64) -> Went
     Went {
         all: true,
         left: rest,
+    }
+}
+
+// One store, where one more may be made.
+pub fn put_next(words: &mut [u64], left: Budget, at: usize, word: u64) -> Budget
+    requires { ⌜ (at < length (now words)) × (0 < left .more) ⌝ }
+    ensures { λ r. ⌜ whole r (now (words .exit)) ≡ run left (storeOf at word ∷ []) (now (words .entry)) ⌝ }
+{
+    store_word(words, at, word);
+    let more = left.more;
+    Budget {
+        more: more - 1,
+        last: at,
     }
 }
 

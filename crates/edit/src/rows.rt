@@ -3,16 +3,16 @@ use crate::Budget;
 use crate::Row;
 use crate::Went;
 use crate::put::put_changed;
+use crate::put::put_next;
 use table::Entry;
-use table::store::store_word;
 use table::word::decode;
 ghost use mathlib.Core.Path.{_≡_};
 ghost use Prim.Native.Nat.{ℕ, _+_, _≤_, _<_};
 ghost use lib.ListN.{length, getD};
 ghost use Rattle.edit.specs.Run.{whole, out, run};
-ghost use Rattle.edit.specs.Rows.{changeAt, rowStores, piecesWord};
+ghost use Rattle.edit.specs.Rows.{changeAt, rowStores, fillStores, piecesWord};
 
-// A store, if it changes the word, where the limit allows one more.
+// A store, if it changes the word, where one more may be made.
 fn put_free(words: &mut [u64], left: Budget, at: usize, word: u64) -> Budget
     requires { ⌜ (at < length (now words)) × (0 < left .more) ⌝ }
     ensures { λ r. ⌜ whole r (now (words .exit)) ≡ run left (changeAt (now (words .entry)) (λ w. word) at) (now (words .entry)) ⌝ }
@@ -20,12 +20,19 @@ fn put_free(words: &mut [u64], left: Budget, at: usize, word: u64) -> Budget
     if words[at] == word {
         return left;
     }
-    store_word(words, at, word);
-    let more = left.more;
-    Budget {
-        more: more - 1,
-        last: at,
+    put_next(words, left, at, word)
+}
+
+// The n words from at, where as many stores may be made: nothing is asked between them.
+pub fn fill(words: &mut [u64], at: usize, n: usize, word: u64, left: Budget) -> Budget
+    requires { ⌜ (at + n ≤ length (now words)) × (n ≤ left .more) ⌝ }
+    ensures { λ r. ⌜ whole r (now (words .exit)) ≡ run left (fillStores word n at) (now (words .entry)) ⌝ }
+{
+    let mut rest = left;
+    for i in 0..n {
+        rest = put_next(words, rest, at + i, word);
     }
+    rest
 }
 
 // The 32 words from at are all to be this word, and the limit allows for them: the entries of a GiB, whose number the compiler knows.
