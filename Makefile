@@ -16,12 +16,12 @@ run: command
 	@echo
 	@$(mpt) map examples/cradles.mpt
 
-# wrong definitions are refused; the compiled monitor is held against the second program; then every crate is proved from nothing.
-# rt ci comes last, so that its verdict is the last line
-test: command
-	@tests/definitions/run
-	@$(MAKE) --no-print-directory board host
-	@rt ci
+# every crate is proved from nothing and its wrong versions are refused; wrong definitions are refused; the library's stores are traced; the
+# compiled monitor is held against the second program. What rt ci said last is said again at the end, if all else passed
+test:
+	@tools/kit
+	@said=$$(mktemp) && trap 'rm -f "$$said"' EXIT && \
+		rt ci 2>&1 | tee "$$said" && tests/definitions/run && $(MAKE) --no-print-directory board host && tail -n 1 "$$said"
 
 # the command mpt over the proved library
 command:

@@ -130,7 +130,7 @@ accepted c =
     let l = k .before .before .before .before .before .before in
     let e = l .before .before .before .before .before in
     edit-accepted (frameAt e) (memoryOf e) (startOf e .args .t3) (request e) (startOf e .args .limit) (frame-is e) (table-is e) (slot-passes e) (range-passes (l .before .before)) (lent-passes l)
-    (sym (room-says k) ∙ le-ltb _ _ (c .if6 .left))
+    (sym (room-says k) ∙ le-ltb (k .before .before .before .free-pages .result .count) (k .new-pages .result) (omega (arith, c .if6 .left)))
 
 frame-ok-requires : tie.Need-frame-ok-requires
 frame-ok-requires c κs = search needs
@@ -280,7 +280,7 @@ returns-6 c =
     rw (
       c .refused6 .ensures,
       edit-no-room (frameAt e) (memoryOf e) (startOf e .args .t3) (request e) (startOf e .args .limit) (frame-is e) (table-is e) (slot-passes e) (range-passes (l .before .before)) (lent-passes l)
-          (sym (room-says k) ∙ lt-ltb _ _ (t .if6 .taken)),
+          (sym (room-says k) ∙ lt-ltb (k .before .before .before .free-pages .result .count) (k .new-pages .result) (omega (arith, t .if6 .taken))),
     )
 
 sdid-requires : tie.Need-sdid-requires
