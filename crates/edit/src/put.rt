@@ -11,29 +11,6 @@ ghost use Rattle.edit.specs.Run.{whole, out, run};
 ghost use Rattle.table.specs.Stored.{storeOf};
 ghost use Rattle.model.specs.Numbers.{if_then_else_};
 
-// One store, if one more may be made.
-pub fn put(words: &mut [u64], left: Budget, at: usize, word: u64) -> Went
-    requires { ⌜ at < length (now words) ⌝ }
-    ensures { λ r. ⌜ out (r .all) (r .left) (now (words .exit)) ≡ run left (storeOf at word ∷ []) (now (words .entry)) ⌝ }
-{
-    let more = left.more;
-    if more == 0 {
-        return Went {
-            all: false,
-            left: left,
-        };
-    }
-    store_word(words, at, word);
-    let rest = Budget {
-        more: more - 1,
-        last: at,
-    };
-    Went {
-        all: true,
-        left: rest,
-    }
-}
-
 // One store, where one more may be made.
 pub fn put_next(words: &mut [u64], left: Budget, at: usize, word: u64) -> Budget
     requires { ⌜ (at < length (now words)) × (0 < left .more) ⌝ }
@@ -44,6 +21,24 @@ pub fn put_next(words: &mut [u64], left: Budget, at: usize, word: u64) -> Budget
     Budget {
         more: more - 1,
         last: at,
+    }
+}
+
+// One store, if one more may be made.
+pub fn put(words: &mut [u64], left: Budget, at: usize, word: u64) -> Went
+    requires { ⌜ at < length (now words) ⌝ }
+    ensures { λ r. ⌜ out (r .all) (r .left) (now (words .exit)) ≡ run left (storeOf at word ∷ []) (now (words .entry)) ⌝ }
+{
+    if left.more == 0 {
+        return Went {
+            all: false,
+            left: left,
+        };
+    }
+    let rest = put_next(words, left, at, word);
+    Went {
+        all: true,
+        left: rest,
     }
 }
 
