@@ -20,8 +20,10 @@ run: command
 # compiled monitor is held against the second program. What rt ci said last is said again at the end, if all else passed
 test:
 	@tools/kit
-	@said=$$(mktemp) && trap 'rm -f "$$said"' EXIT && \
-		rt ci 2>&1 | tee "$$said" && tests/definitions/run && $(MAKE) --no-print-directory board host && tail -n 1 "$$said"
+	@said=$$(mktemp); rt ci 2>&1 | tee "$$said" || { rm -f "$$said"; exit 1; }; mv "$$said" target/verdict
+	@tests/definitions/run
+	@$(MAKE) --no-print-directory board host
+	@tail -n 1 target/verdict
 
 # the command mpt over the proved library
 command:

@@ -26,14 +26,24 @@ module _ (w : ℕ) where
   pub pieces-word : w / 2 ^ 44 ≡ 6 → w % 2 ^ 44 < 2 ^ 32 → pieces (w % 2 ^ 44) ≡ decode rv64 w
   unfolding decode zeroOf typeOf infoOf
   pieces-word k i =
-      rw (eq-eqb (w / 2 ^ 47) 0 (omega arith), le-ltb (w / 2 ^ 44 % 8) 4 (omega arith), ne-eqb (w / 2 ^ 44 % 8) 4 (λ e. omega (arith, e)),
-      eq-eqb (w / 2 ^ 44 % 8) 6 (omega arith), lt-ltb (w % 2 ^ 44) (2 ^ 32) i) refl
+      rw (
+        eq-eqb (w / 2 ^ 47) 0 (omega arith),
+        le-ltb (w / 2 ^ 44 % 8) 4 (omega arith),
+        ne-eqb (w / 2 ^ 44 % 8) 4 (λ e. omega (arith, e)),
+        eq-eqb (w / 2 ^ 44 % 8) 6 (omega arith),
+        lt-ltb (w % 2 ^ 44) (2 ^ 32) i,
+      ) refl
 
   pub not-pieces : w / 2 ^ 44 ≡ 6 → 2 ^ 32 ≤ w % 2 ^ 44 → invalid ≡ decode rv64 w
   unfolding decode zeroOf typeOf infoOf
   not-pieces k i =
-      rw (eq-eqb (w / 2 ^ 47) 0 (omega arith), le-ltb (w / 2 ^ 44 % 8) 4 (omega arith), ne-eqb (w / 2 ^ 44 % 8) 4 (λ e. omega (arith, e)),
-      eq-eqb (w / 2 ^ 44 % 8) 6 (omega arith), le-ltb (w % 2 ^ 44) (2 ^ 32) i) refl
+      rw (
+        eq-eqb (w / 2 ^ 47) 0 (omega arith),
+        le-ltb (w / 2 ^ 44 % 8) 4 (omega arith),
+        ne-eqb (w / 2 ^ 44 % 8) 4 (λ e. omega (arith, e)),
+        eq-eqb (w / 2 ^ 44 % 8) 6 (omega arith),
+        le-ltb (w % 2 ^ 44) (2 ^ 32) i,
+      ) refl
 
   pub no-type : 4 < w / 2 ^ 44 → (w / 2 ^ 44 ≡ 6 → ⊥) → invalid ≡ decode rv64 w
   unfolding decode zeroOf typeOf infoOf

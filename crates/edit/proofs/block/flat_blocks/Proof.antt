@@ -46,7 +46,7 @@ same-length c = search needs
 
 -- src/block.rt:180:1
 returns : tie.Need-returns
-returns c = 
+returns c =
     let s = c .before .before .before .before .before .before .before .before .before in
     let a = s .args in
     let m = a .words .now in

@@ -40,7 +40,7 @@ returns-2 c = search needs
 
 -- src/block.rt:262:5
 outside-blocks-requires : tie.Need-outside-blocks-requires
-outside-blocks-requires c κs = 
+outside-blocks-requires c κs =
     let s = c .before .before .before .before .before in
     let n = c .before .before .blocks-outside in (
       s .pre .0,

@@ -44,7 +44,7 @@ pieces-row-requires c κs = search needs
 
 -- src/block.rt:228:9
 one-block-requires : tie.Need-one-block-requires
-one-block-requires c κs = 
+one-block-requires c κs =
     let t = c .before in
     let s = t .before .before .before .before .before .before .before .before .before in
     let a = s .args in
@@ -59,7 +59,7 @@ same-length c = search needs
 
 -- src/block.rt:228:9
 returns : tie.Need-returns
-returns c = 
+returns c =
     let t = c .before .before .before .before in
     let a = t .before .before .before .before .before .before .before .before .before .args in
     subst (λ (x : List ℕ). Did (frameOf (a .f) x) x (requestOf (a .q)) (a .root .0) (a .gib) (a .b) (freeList (a .free)) (a .next) (a .left) (c .before .before .one-block .result) (c .before .before .one-block .last .1 .0))
@@ -71,7 +71,7 @@ same-length-2 c = search needs
 
 -- src/block.rt:208:1
 returns-2 : tie.Need-returns-2
-returns-2 c = 
+returns-2 c =
     let s = c .before .before .before .before .before .before .before .before .before .before in
     let a = s .args in
     let m = a .words .now in
@@ -81,10 +81,10 @@ returns-2 c =
     let at : c .before .before .before .before .before .before .before .page-at .result + a .b ≡ indexOf F (a .root .0) (a .b) = ap (λ (k : ℕ). k + a .b) (c .before .before .before .before .before .before .before .page-at .ensures .0) ∙ index-add F (a .root .0) (a .b) in
     let row : (x : ℕ) → a .b ≤ x → x < a .b + n → Entrywise F m (requestOf (a .q)) (a .root .0) (a .gib) piecesWord x
     = λ x lo hi.
-        let k : c .before .before .before .before .before .before .before .page-at .result + x ≡ indexOf F (a .root .0) x = ap (λ (y : ℕ). y + x) (c .before .before .before .before .before .before .before .page-at .ensures .0) ∙ index-add F (a .root .0) x in
-        pieces-entry (a .f) m (requestOf (a .q)) (a .root .0) (a .gib) (s .pre .2 .small) (s .pre .6) (s .pre .0 .isLent) x (s .pre .0 .good x (omega (arith, s .pre .1, r .ensures .0)))
-        (λ y l u. s .pre .9 y (omega arith) (omega (arith, r .ensures .0)))
-        (subst (λ (y : ℕ). piecesWord (getD m y 0) ≡ 0 → ⊥) k (r .ensures .1 _ (omega arith) (omega arith))) in
+    let k : c .before .before .before .before .before .before .before .page-at .result + x ≡ indexOf F (a .root .0) x = ap (λ (y : ℕ). y + x) (c .before .before .before .before .before .before .before .page-at .ensures .0) ∙ index-add F (a .root .0) x in
+    pieces-entry (a .f) m (requestOf (a .q)) (a .root .0) (a .gib) (s .pre .2 .small) (s .pre .6) (s .pre .0 .isLent) x (s .pre .0 .good x (omega (arith, s .pre .1, r .ensures .0)))
+    (λ y l u. s .pre .9 y (omega arith) (omega (arith, r .ensures .0)))
+    (subst (λ (y : ℕ). piecesWord (getD m y 0) ≡ 0 → ⊥) k (r .ensures .1 _ (omega arith) (omega arith))) in
     record {
       made =
           r .ensures .2

@@ -21,7 +21,7 @@ same-length : tie.Need-same-length
 same-length c = search needs
 
 returns : tie.Need-returns
-returns c = 
+returns c =
     let a = c .before .before .before .before .before .args in
     ap (whole (record { more = a .left .more - 1; last = a .at })) (c .before .before .store-word .ensures .sets) ∙ sym (run-one (a .left) (storeOf (a .at) (a .word)) (a .words .now) (omega arith))
 

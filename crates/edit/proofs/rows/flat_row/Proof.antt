@@ -29,7 +29,7 @@ same-length : tie.Need-same-length Inv-loop μ-loop
 same-length c = c .before .before .before .before .put-changed .kept .0 ∙ c .before .before .before .before .before .before .before .loop .inv .1 .size
 
 returns : tie.Need-returns Inv-loop μ-loop
-returns c = 
+returns c =
     let r = c .before .before .before .before .put-changed in
     let l = c .before .before .before .before .before .before .before in
     row-cut _ _ _ _ (l .loop .words) (l .loop .more) (l .loop .i) (l .loop .inv .1) _ refl _ (r .ensures)
@@ -42,7 +42,7 @@ loop-less : tie.Need-loop-less Inv-loop μ-loop
 loop-less c = omega (arith, c .before .before .before .before .before .before .before .loop-test .taken)
 
 loop-again : tie.Need-loop-again Inv-loop μ-loop
-loop-again c = 
+loop-again c =
     let r = c .before .before .before .before .before .put-changed in
     let l = c .before .before .before .before .before .before .before .before in (
       omega (arith, c .before .before .before .before .before .before .before .loop-test .taken),
@@ -54,7 +54,7 @@ same-length-2 : tie.Need-same-length-2 Inv-loop μ-loop
 same-length-2 c = c .before .loop .inv .1 .size
 
 returns-2 : tie.Need-returns-2 Inv-loop μ-loop
-returns-2 c = 
+returns-2 c =
     let l = c .before in
     let s = l .before .before in
     let z : l .loop .i ≡ s .args .n = omega (arith, l .loop .inv .0, c .loop-test .left) in

@@ -16,7 +16,7 @@ slice-read-if1 : tie.Need-slice-read-if1
 slice-read-if1 c = search needs
 
 returns : tie.Need-returns
-returns c = 
+returns c =
     let a = c .before .before .before .args in
     let same : getD (a .words .now) (a .at) 0 ≡ a .word = c .if1 .taken in
     rw (eq-eqb _ _ same) (sym (run-none _ _))

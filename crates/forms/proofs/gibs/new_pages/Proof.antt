@@ -52,10 +52,10 @@ add-result c = record { fits = omega (arith, low-one (c .before .before), high-o
 -- src/gibs.rt:97:1
 returns-2 : tie.Need-returns-2
 returns-2 c = let s = c .before .before .before .before .before .before in (
-      ap₂ (λ (x y : ℕ). x + y) (c .before .before .new-page .ensures) (c .new-page2 .ensures)
-          ∙ count-two (s .args .f) (s .args .words .now) (requestOf (s .args .q)) (s .args .root .0) (s .pre) (c .before .if1 .left),
-      omega (arith, low-one (c .before .before), high-one c),
-    )
+  ap₂ (λ (x y : ℕ). x + y) (c .before .before .new-page .ensures) (c .new-page2 .ensures)
+      ∙ count-two (s .args .f) (s .args .words .now) (requestOf (s .args .q)) (s .args .root .0) (s .pre) (c .before .if1 .left),
+  omega (arith, low-one (c .before .before), high-one c),
+)
 
 pub new-pages-spec : {M : Type 1} → statement M
 new-pages-spec =
