@@ -11,11 +11,13 @@ use table::Kind;
 use table::Permission;
 use table::Privilege;
 use table::number;
+use table::rights;
 ghost use mathlib.Core.Path.{_≡_};
-ghost use Prim.Native.Nat.{_<_, _^_};
+ghost use Prim.Native.Nat.{ℕ, _<_, _^_};
 ghost use lib.ListN.{getD};
 ghost use Rattle.model.specs.Numbers.{if_then_else_};
-ghost use Rattle.table.specs.Views.{answerOf, fenceOf};
+ghost use Rattle.model.specs.Access.{fault, causeOf, originalOf};
+ghost use Rattle.table.specs.Views.{kindOf, answerOf, fenceOf};
 ghost use Rattle.monitor.specs.Outcomes.{replyOf};
 ghost use Rattle.api.specs.Codes.{privilegeAt, kindAt, permissionAt, whoOf, whatOf, grantOf, answerWord, fenceWord, replyWord};
 
@@ -85,12 +87,21 @@ pub fn grant(code: u64) -> Grant
     Grant::Unknown
 }
 
-pub fn answer_word(a: Answer) -> u64
+// The fault that an access of this kind can be answered.
+pub fn fault_word(kind: Kind) -> u64
+    ensures { λ r. ⌜ r ≡ answerWord (fault (causeOf (originalOf (kindOf kind)))) ⌝ }
+{
+    256 + number::of_cause(rights::cause_of(kind))
+}
+
+// What a lookup answers. no: its access's fault, which is at hand before the lookup, so that the answer is a choice of two words.
+pub fn answer_word(a: Answer, no: u64) -> u64
+    requires { ⌜ ((cause : ℕ) → answerOf a ≡ fault cause → no ≡ answerWord (fault cause)) ⌝ }
     ensures { λ r. ⌜ r ≡ answerWord (answerOf a) ⌝ }
 {
     match a {
         Answer::Allowed => 0,
-        Answer::Fault(c) => 256 + number::of_cause(c),
+        Answer::Fault(_) => no,
         Answer::Refused(why) => number::of_refusal(why),
     }
 }

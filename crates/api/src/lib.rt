@@ -3,6 +3,7 @@
 mod code;
 
 use crate::code::answer_word;
+use crate::code::fault_word;
 use crate::code::grant;
 use crate::code::reply_word;
 use crate::code::slot_at;
@@ -79,7 +80,8 @@ pub extern "C" fn mpt_lookup(
     match who(privilege) {
         Who::Known(p) => match what(kind) {
             What::Known(k) => {
-                answer_word(monitor::lookup(f, words, mmpt, p, k, Address(address)))
+                let no = fault_word(k);
+                answer_word(monitor::lookup(f, words, mmpt, p, k, Address(address)), no)
             }
             What::Unknown => 255,
         },

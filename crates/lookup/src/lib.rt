@@ -1,11 +1,14 @@
 // The lookup: frame, register, privilege, Bare, walk, permission.
 use table::Address;
 use table::Answer;
+use table::Cause;
 use table::Entry;
 use table::Found;
 use table::Frame;
 use table::Kind;
+use table::Need;
 use table::PageNumber;
+use table::Permission;
 use table::Privilege;
 use table::Refusal;
 use table::lent;
@@ -20,7 +23,8 @@ ghost use Rattle.model.specs.Frame.{boundsOk};
 ghost use Rattle.model.specs.Walk as walk;
 ghost use Rattle.model.specs.Access as access;
 ghost use Rattle.model.specs.Lookup as lookup;
-ghost use Rattle.table.specs.Views.{frameOf, entryOf, foundOf, kindOf, privilegeOf, answerOf};
+ghost use Rattle.table.specs.Views.{frameOf, entryOf, foundOf, permissionNumber, needOf, kindOf, causeNumber, privilegeOf, answerOf};
+ghost use Rattle.lookup.specs.Granted.{grantedOf};
 ghost use Rattle.table.specs.Bounds.{Small};
 
 // The first stage: L2 entry b of a root, decoded once. It says nothing where the root page is not lent.
@@ -77,21 +81,29 @@ pub fn walk(f: Frame, words: &[u64], root: PageNumber, number: PageNumber) -> Fo
     Found::Fault
 }
 
-fn judge(found: Found, kind: Kind) -> Answer
-    ensures { λ r. ⌜ answerOf r ≡ access.judge (foundOf found) (kindOf kind) ⌝ }
+// What the walk finds, as a permission: a walk that faults serves no access, and neither does none.
+fn granted(found: Found) -> Permission
+    ensures { λ r. ⌜ permissionNumber r ≡ grantedOf (foundOf found) ⌝ }
 {
     match found {
-        Found::Grant(p) => {
-            if rights::may(p, rights::need_of(kind)) {
-                return Answer::Allowed;
-            }
-            Answer::Fault(rights::cause_of(kind))
-        }
-        Found::Fault => Answer::Fault(rights::cause_of(kind)),
+        Found::Grant(p) => p,
+        Found::Fault => Permission::None,
     }
 }
 
-// "A lookup checks the frame, then the register, then: effective privilege M is allowed; Bare is allowed; else the walk."
+// What an access is answered that has this need, and whose fault has this cause.
+fn judge(found: Found, need: Need, cause: Cause) -> Answer
+    ensures { λ r. ⌜ ((k : access.Kind) → needOf need ≡ access.needOf k → causeNumber cause ≡ access.causeOf (access.originalOf k)
+        → answerOf r ≡ access.judge (foundOf found) k) ⌝ }
+{
+    if rights::may(granted(found), need) {
+        return Answer::Allowed;
+    }
+    Answer::Fault(cause)
+}
+
+// "A lookup checks the frame, then the register, then: effective privilege M is allowed; Bare is allowed; else the walk." What the access
+// needs, and its fault, are asked before the walk: the answer is then one choice between two values at hand.
 pub fn lookup(
     f: Frame,
     words: &[u64],
@@ -102,6 +114,8 @@ pub fn lookup(
 ) -> Answer
     ensures { λ r. ⌜ answerOf r ≡ lookup.lookup (frameOf f (now (words .entry))) (now (words .entry)) register (privilegeOf who) (a .0) (kindOf kind) ⌝ }
 {
+    let need = rights::need_of(kind);
+    let cause = rights::cause_of(kind);
     if !lent::frame_ok(f, words) {
         return Answer::Refused(Refusal::Frame);
     }
@@ -116,6 +130,7 @@ pub fn lookup(
     }
     judge(
         walk(f, words, register::ppn(register), page::page_of(a)),
-        kind,
+        need,
+        cause,
     )
 }

@@ -3,6 +3,7 @@ use mathlib.Core.Path.{_≡_, refl, sym, ap, _∙_}
 use borrow.Author.Needs.{needs}
 use Rattle.api.specs.Codes.{known, privilegeAt, kindAt, whoOf, whatOf, answerWord}
 use Rattle.table.specs.Views.{privilegeOf, kindOf}
+use Rattle.api.proofs.Faults.{fault-of-lookup}
 use Rattle.api.proofs.mpt_lookup.Statement.{statement}
 use Rattle.api.proofs.mpt_lookup.Tie as tie
 
@@ -18,11 +19,14 @@ what-requires c κs = search needs
 enum-known-k : tie.Need-enum-known-k
 enum-known-k c = search needs
 
+fault-word-requires : tie.Need-fault-word-requires
+fault-word-requires c κs = search needs
+
 lookup-requires : tie.Need-lookup-requires
 lookup-requires c κs = search needs
 
 answer-word-requires : tie.Need-answer-word-requires
-answer-word-requires c κs = search needs
+answer-word-requires c κs cause e = rw (fault-of-lookup _ _ _ _ _ _ cause (sym (c .lookup .ensures) ∙ e)) (c .before .fault-word .ensures)
 
 enum-told : tie.Need-enum-told
 enum-told c = search needs
@@ -40,7 +44,7 @@ names-what c = sym (c .before .before .what .ensures) ∙ ap whatOf (c .k .given
 returns : tie.Need-returns
 returns c =
     let l = c .before in
-    let k = l .before .before in
+    let k = l .before .before .before in
     rw (names-who (k .before .before .before .before), names-what k) (c .answer-word .ensures ∙ ap answerWord (l .lookup .ensures))
 
 returns-2 : tie.Need-returns-2
@@ -59,6 +63,7 @@ mpt-lookup-spec =
     enum-known-p
     what-requires
     enum-known-k
+    fault-word-requires
     lookup-requires
     answer-word-requires
     enum-told

@@ -14,11 +14,17 @@ use Rattle.lookup.proofs.lookup.Statement.{statement}
 use Rattle.lookup.proofs.lookup.Tie as tie
 
 -- the frame is within its bounds, and the register is not refused
-frame-passes : (c : tie.Else1) → let a = c .before .before .before .args in frameOk (frameOf (a .f) (now (a .words))) (now (a .words)) ≡ true
+frame-passes : (c : tie.Else1) → let a = c .before .before .before .before .before .args in frameOk (frameOf (a .f) (now (a .words))) (now (a .words)) ≡ true
 frame-passes c = sym (c .before .frame-ok .ensures) ∙ not-false _ (c .if1 .left)
 
-register-passes : (c : tie.Else2) → registerOk rv64 (c .before .before .before .before .before .args .register) ≡ true
+register-passes : (c : tie.Else2) → registerOk rv64 (c .before .before .before .before .before .before .before .args .register) ≡ true
 register-passes c = sym (c .before .register-ok .ensures) ∙ not-false _ (c .if2 .left)
+
+need-of-requires : tie.Need-need-of-requires
+need-of-requires c κs = search needs
+
+cause-of-requires : tie.Need-cause-of-requires
+cause-of-requires c κs = search needs
 
 frame-ok-requires : tie.Need-frame-ok-requires
 frame-ok-requires c κs = search needs
@@ -76,12 +82,14 @@ returns-5 c = let d = c .before .before .before .before in
       ← c .before .before .before .ppn .ensures .0,
       ← c .before .walk .ensures,
     )
-    (c .judge .ensures)
+    (let k = b .before .before .before .before .before .before in c .judge .ensures _ (k .before .need-of .ensures) (k .cause-of .ensures))
 
 pub lookup-spec : {M : Type 1} → statement M
 lookup-spec =
     tie.close
     (tie.spec
+    need-of-requires
+    cause-of-requires
     frame-ok-requires
     returns
     register-ok-requires

@@ -1,0 +1,2 @@
+-- What the lookup's contracts say beyond the model.
+pub mod Granted
