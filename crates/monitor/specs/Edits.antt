@@ -1,6 +1,21 @@
--- What an edit asks.
-use Prim.Native.Nat.{ℕ}
+-- What an edit asks, and what stands once its slot is known to be open.
+use mathlib.Core.Path.{_≡_}
+use mathlib.Core.Bool.{Bool, true, false}
+use mathlib.Core.List.{List}
+use Prim.Native.Nat.{ℕ, _<_}
 use Rattle.model.specs.Forms.{Request}
+use Rattle.model.specs.Frame.{Frame, frameOk}
+use Rattle.model.specs.Sound.{Slot, roots, sound, freePages}
+use Rattle.sound.specs.Free.{clearPages}
+use Rattle.monitor.specs.Slots.{notOpen}
 
 abbrev pub asked : ℕ → ℕ → ℕ → ℕ → Request
 asked slot start length permission = record { slot = slot; start = start; size = length; permission = permission }
+
+-- refusals 1, 3 and 4 do not fit, the permission is one of the four, and the marks leave just the free pages clear
+pub record InOpenSlot (F : Frame) (m : List ℕ) (slots : List Slot) (q : Request) (marks : List Bool) : Type 0 where
+  pub okFrame : frameOk F m ≡ true
+  pub okTable : sound F m slots ≡ true
+  pub okSlot : notOpen slots (q .slot) ≡ false
+  pub small : q .permission < 4
+  pub clear : clearPages F marks ≡ freePages F m (roots F slots)

@@ -32,7 +32,8 @@ ghost use Rattle.model.specs.Frame as frame;
 ghost use Rattle.model.specs.Calls as calls;
 ghost use Rattle.table.specs.Views.{frameOf, permissionNumber};
 ghost use Rattle.monitor.specs.Outcomes.{outcomeOf, refusedWith};
-ghost use Rattle.monitor.specs.Edits.{asked};
+ghost use Rattle.forms.specs.Kinds.{requestOf};
+ghost use Rattle.monitor.specs.Edits.{asked, InOpenSlot};
 
 pub enum Reply {
     Refused(Refusal),
@@ -130,7 +131,42 @@ pub fn close(f: Frame, words: &[u64], slots: [u64; 8], slot: u64) -> Outcome
     }
 }
 
-// "An edit names a slot, start, length, permission (one of the four) and a limit on stores." Refusals 1, 3, 4, 5, 6, 7, in this order.
+// An edit in an open slot of a sound table, whose marks are at hand. Refusals 5, 6, 7, in this order, and then the stores.
+fn edit_open(
+    f: Frame,
+    words: &mut [u64],
+    slots: [u64; 8],
+    q: Request,
+    used: &[bool; 256],
+    limit: u64,
+) -> Outcome
+    requires { ⌜ InOpenSlot (frameOf f (now words)) (now words) slots (requestOf q) (now used) ⌝ }
+    ensures { λ r. ⌜ outcomeOf r (now (words .exit)) ≡ calls.editSlot (frameOf f (now (words .entry))) (now (words .entry)) slots (requestOf q) limit ⌝ }
+{
+    if bad_range(f, words.len(), q) {
+        return refused(Refusal::Range, slots);
+    }
+    if on_lent_pages(f, words.len(), q) {
+        return refused(Refusal::LentPages, slots);
+    }
+    let free = free_pages(f, words.len(), used);
+    let at = q.slot as usize;
+    let register = slots[at];
+    let root = register::ppn(register);
+    if free.count < new_pages(f, words, q, root) {
+        return refused(Refusal::NoRoom, slots);
+    }
+    let sdid = register::sdid(register);
+    let made = make(f, words, q, root, sdid, free, limit);
+    let fence = made.fence;
+    Outcome {
+        reply: Reply::Edited(made.count, made.all),
+        slots: slots,
+        fence: fence,
+    }
+}
+
+// "An edit names a slot, start, length, permission (one of the four) and a limit on stores." Refusals 1, 3, 4 here, and then as above.
 pub fn edit(
     f: Frame,
     words: &mut [u64],
@@ -160,25 +196,5 @@ pub fn edit(
         size: length,
         permission: rights::bits(permission),
     };
-    if bad_range(f, words.len(), q) {
-        return refused(Refusal::Range, slots);
-    }
-    if on_lent_pages(f, words.len(), q) {
-        return refused(Refusal::LentPages, slots);
-    }
-    let free = free_pages(f, words.len(), &checked.used);
-    let at = slot as usize;
-    let register = slots[at];
-    let root = register::ppn(register);
-    if free.count < new_pages(f, words, q, root) {
-        return refused(Refusal::NoRoom, slots);
-    }
-    let sdid = register::sdid(register);
-    let made = make(f, words, q, root, sdid, free, limit);
-    let fence = made.fence;
-    Outcome {
-        reply: Reply::Edited(made.count, made.all),
-        slots: slots,
-        fence: fence,
-    }
+    edit_open(f, words, slots, q, &checked.used, limit)
 }

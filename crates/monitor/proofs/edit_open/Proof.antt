@@ -1,0 +1,238 @@
+-- `monitor::edit_open` meets its contract: the refusals of range, lent pages and room in their order, and then the stores of an accepted edit.
+use mathlib.Core.Path.{_≡_, sym, ap, ap₂, _∙_, subst, subst₃}
+use mathlib.Core.Bool.{not, false, _&&_}
+use mathlib.Core.List.{List}
+use Prim.Native.Nat.{ℕ, _<_}
+use native.Mathlib.Omega.{arith}
+use lib.Dec.{eqb, ltb}
+use lib.ListN.{length}
+use denote.Ref.{now}
+use borrow.Author.Tests.{lt-ltb, le-ltb}
+use borrow.Author.Needs.{needs}
+use Rattle.model.specs.Frame.{Frame}
+use Rattle.model.specs.Sound.{roots, freePages}
+use Rattle.model.specs.Forms.{Request}
+use Rattle.model.specs.Stores.{Store}
+use Rattle.model.specs.Calls.{slotAt, registerFor, rootOf, refuse, badRange, meetsLent, editRefusal, storeList}
+use Rattle.table.specs.Views.{frameOf}
+use Rattle.table.proofs.Frames.{framed}
+use Rattle.sound.specs.declared.Free.{Free}
+use Rattle.sound.specs.Free.{listed}
+use Rattle.forms.specs.Kinds.{requestOf, wholePages}
+use Rattle.edit.specs.Kinds.{Accepted, freeList}
+use Rattle.edit.specs.Done.{IsMade}
+use Rattle.edit.proofs.Facts.{accepted-list}
+use Rattle.theory.specs.Rooted.{Rooted}
+use Rattle.monitor.specs.Edits.{InOpenSlot}
+use Rattle.monitor.proofs.EditRefusals.{noRoom, edit-range, edit-lent, edit-no-room, edit-accepted, edit-done, made-is}
+use Rattle.monitor.proofs.FreePages.{listed-front, listed-short}
+use Rattle.monitor.proofs.Sdids.{slot-low}
+use Rattle.monitor.proofs.SlotRoots.{rooted-slot}
+use Rattle.monitor.proofs.edit_open.Statement.{statement}
+use Rattle.monitor.proofs.edit_open.Tie as tie
+
+-- the state that the call finds, and what it is asked
+abbrev memoryOf : (s : tie.Start) → List ℕ
+memoryOf s = now (s .args .words)
+
+abbrev frameAt : (s : tie.Start) → Frame
+frameAt s = frameOf (s .args .f) (memoryOf s)
+
+abbrev request : (s : tie.Start) → Request
+request s = requestOf (s .args .q)
+
+abbrev rootAt : (s : tie.Start) → ℕ
+rootAt s = rootOf (frameAt s) (s .args .t3) (request s)
+
+-- the pages that are free before the edit
+abbrev pages : (s : tie.Start) → List ℕ
+pages s = freePages (frameAt s) (memoryOf s) (roots (frameAt s) (s .args .t3))
+
+given : (s : tie.Start) → InOpenSlot (frameAt s) (memoryOf s) (s .args .t3) (request s) (now (s .args .used))
+given s = s .pre
+
+low : (s : tie.Start) → s .args .q .slot < 8
+low s = slot-low _ _ (given s .okSlot)
+
+-- the tests that were passed
+range-passes : (c : tie.Else1) → let s = c .before .before .before in badRange (frameAt s) (request s) ≡ false
+range-passes c = sym (c .before .bad-range .ensures) ∙ c .if1 .left
+
+lent-passes : (c : tie.Else2) → let s = c .before .before .before .before .before in (not (eqb (request s .permission) 0) && meetsLent (frameAt s) (request s)) ≡ false
+lent-passes c = sym (c .before .on-lent-pages .ensures) ∙ c .if2 .left
+
+-- what is picked from the marks are the free pages
+free-are : (c : tie.After-free-pages) → let s = c .before .before .before .before .before .before in c .free-pages .result ≡ listed (pages s)
+free-are c = c .free-pages .ensures ∙ ap listed (given (c .before .before .before .before .before .before) .clear)
+
+-- the new pages of the whole edit, from the slot's own root
+pages-are : (c : tie.After-new-pages) → let s = c .before .before .before .before .before .before .before .before .before in
+    c .new-pages .result ≡ wholePages (frameAt s) (memoryOf s) (request s) (rootAt s)
+unfolding rootOf registerFor slotAt
+pages-are c =
+    let s = c .before .before .before .before .before .before .before .before .before in
+    c .new-pages .ensures .0 ∙ ap (wholePages (frameAt s) (memoryOf s) (request s)) (c .before .before .ppn .ensures .0)
+
+room-says : (c : tie.After-new-pages) → let s = c .before .before .before .before .before .before .before .before .before in
+    ltb (c .before .before .before .free-pages .result .count) (c .new-pages .result) ≡ noRoom (frameAt s) (memoryOf s) (s .args .t3) (request s)
+room-says c =
+    let s = c .before .before .before .before .before .before .before .before .before in
+    ap (λ (free : Free). ltb (free .count) (c .new-pages .result)) (free-are (c .before .before .before))
+    ∙ listed-short (pages s) (c .new-pages .result) (c .new-pages .ensures .1)
+    ∙ ap (ltb (length (pages s))) (pages-are c)
+
+-- no refusal fits
+accepted : (c : tie.Else3) → let s = c .before .before .before .before .before .before .before .before .before .before .before in
+    editRefusal (frameAt s) (memoryOf s) (s .args .t3) (request s) ≡ 0
+accepted c =
+    let k = c .before .before in
+    let l = k .before .before .before .before in
+    let s = l .before .before .before .before .before in
+    edit-accepted (frameAt s) (memoryOf s) (s .args .t3) (request s) (s .args .limit) (given s .okFrame) (given s .okTable) (given s .okSlot) (range-passes (l .before .before)) (lent-passes l)
+    (sym (room-says k) ∙ le-ltb (k .before .before .before .free-pages .result .count) (k .new-pages .result) (omega (arith, c .if3 .left)))
+
+bad-range-requires : tie.Need-bad-range-requires
+bad-range-requires c κs = framed _ _ (given (c .before) .okFrame) .0
+
+refused-requires : tie.Need-refused-requires
+refused-requires c κs = search needs
+
+returns : tie.Need-returns
+unfolding refuse
+returns c =
+    let t = c .before in
+    let s = t .before .before .before in
+    rw (
+      c .refused .ensures,
+      edit-range (frameAt s) (memoryOf s) (s .args .t3) (request s) (s .args .limit) (given s .okFrame) (given s .okTable) (given s .okSlot) (sym (t .before .bad-range .ensures) ∙ t .if1 .taken),
+    )
+
+on-lent-pages-requires : tie.Need-on-lent-pages-requires
+on-lent-pages-requires c κs = (framed _ _ (given (c .before .before .before) .okFrame) .0, range-passes c)
+
+refused-requires-2 : tie.Need-refused-requires-2
+refused-requires-2 c κs = search needs
+
+returns-2 : tie.Need-returns-2
+unfolding refuse
+returns-2 c =
+    let t = c .before in
+    let r = t .before .before in
+    let s = r .before .before .before in
+    rw (
+      c .refused2 .ensures,
+      edit-lent (frameAt s) (memoryOf s) (s .args .t3) (request s) (s .args .limit) (given s .okFrame) (given s .okTable) (given s .okSlot) (range-passes r)
+          (sym (t .before .on-lent-pages .ensures) ∙ t .if2 .taken),
+    )
+
+free-pages-requires : tie.Need-free-pages-requires
+free-pages-requires c κs = framed _ _ (given (c .before .before .before .before .before) .okFrame) .0
+
+mul-register : tie.Need-mul-register
+mul-register c = let h = low (c .before .before .before .before .before .before) in omega arith
+
+array-read-register : tie.Need-array-read-register
+array-read-register c = low (c .before .before .before .before .before .before)
+
+ppn-requires : tie.Need-ppn-requires
+ppn-requires c κs = search needs
+
+new-pages-requires : tie.Need-new-pages-requires
+unfolding slotAt
+new-pages-requires c κs =
+    let r = c .before .before .before .before .before in
+    let s = r .before .before .before in
+    record {
+      small = given s .small;
+      okFrame = given s .okFrame;
+      range = range-passes r;
+      rooted = subst (Rooted (frameAt s) (memoryOf s)) (sym (c .before .ppn .ensures .0))
+          (rooted-slot (s .args .f) (memoryOf s) (s .args .t3) (s .args .q .slot) (given s .okFrame) (given s .okTable) (given s .okSlot));
+    }
+
+refused-requires-3 : tie.Need-refused-requires-3
+refused-requires-3 c κs = search needs
+
+same-length : tie.Need-same-length
+same-length c = search needs
+
+returns-3 : tie.Need-returns-3
+unfolding refuse
+returns-3 c =
+    let full = c .before in
+    let k = full .before .before in
+    let l = k .before .before .before .before in
+    let s = l .before .before .before .before .before in
+    rw (
+      c .refused3 .ensures,
+      edit-no-room (frameAt s) (memoryOf s) (s .args .t3) (request s) (s .args .limit) (given s .okFrame) (given s .okTable) (given s .okSlot) (range-passes (l .before .before)) (lent-passes l)
+          (sym (room-says k) ∙ lt-ltb (k .before .before .before .free-pages .result .count) (k .new-pages .result) (omega (arith, full .if3 .taken))),
+    )
+
+sdid-requires : tie.Need-sdid-requires
+sdid-requires c κs = search needs
+
+-- the edit, in the words of the crate that makes the stores
+asks : (c : tie.Else3) → let s = c .before .before .before .before .before .before .before .before .before .before .before in
+    Accepted (frameAt s) (memoryOf s) (request s) (c .before .before .before .before .ppn .result .0) (freeList (c .before .before .before .before .before .free-pages .result))
+unfolding slotAt registerFor rootOf
+asks c =
+    let p = c .before .before .before .before in
+    let k = p .before .before .before .before .before .before in
+    let s = k .before in
+    record {
+      small = given s .small;
+      slots = s .args .t3;
+      none = accepted c;
+      isRoot = p .ppn .ensures .0;
+      areFree = ap freeList (free-are (p .before)) ∙ listed-front (pages s);
+      typed = λ i. omega (arith, k .slice-known .given i);
+    }
+
+make-requires : tie.Need-make-requires
+make-requires c κs = asks (c .before .before)
+
+same-length-2 : tie.Need-same-length-2
+same-length-2 c = search needs
+
+returns-4 : tie.Need-returns-4
+unfolding asks slotAt registerFor rootOf
+returns-4 c =
+    let k = c .before .before in
+    let d = k .before .before in
+    let x = d .before in
+    let p = x .before .before .before .before in
+    let s = p .before .before .before .before .before .before .before in
+    let a = s .args in
+    let m = memoryOf s in
+    let F = frameAt s in
+    let q = request s in
+    made-is F m (a .t3) q (a .limit) (storeList F m (a .t3) q) (k .make .last .1 .0) (k .make .result)
+    (subst₃ (λ (root sdid : ℕ) (list : List Store). IsMade F q root sdid list (a .limit) m (k .make .last .1 .0) (k .make .result))
+    (p .ppn .ensures .0) (d .sdid .ensures .0)
+    (accepted-list (a .f) m q (p .ppn .result .0) (freeList (p .before .free-pages .result)) (asks x))
+    (k .make .ensures))
+    ∙ sym (edit-done F m (a .t3) q (a .limit) (accepted x))
+
+pub edit-open-spec : {M : Type 1} → statement M
+edit-open-spec =
+    tie.close
+    (tie.spec
+    bad-range-requires
+    refused-requires
+    returns
+    on-lent-pages-requires
+    refused-requires-2
+    returns-2
+    free-pages-requires
+    mul-register
+    array-read-register
+    ppn-requires
+    new-pages-requires
+    refused-requires-3
+    same-length
+    returns-3
+    sdid-requires
+    make-requires
+    same-length-2
+    returns-4)
