@@ -23,9 +23,10 @@ pub enum Call {
     Close,
 }
 
-/// Calls in a batch of lookups, and tables in a batch of anything that changes them. The tables
-/// are small, so that a batch of them stays in a core's cache.
-const LOOKUPS: usize = 4096;
+/// Calls in a batch of lookups, and tables in a batch of anything that changes them. The lookups are
+/// so many that a core does not learn by heart which way each will go, as it does with 4,096. The
+/// tables are small, so that a batch of them stays in a core's cache.
+const LOOKUPS: usize = 65_536;
 const TABLES: usize = 32;
 
 impl Work {
