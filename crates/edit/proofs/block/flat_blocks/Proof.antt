@@ -5,8 +5,8 @@ use native.Mathlib.Omega.{arith}
 use lib.ListN.{drop}
 use Rattle.edit.proofs.BlockRows.{Entrywise, row-stores, row-pages, flat-entry}
 use Rattle.edit.specs.Kinds.{freeList}
-use Rattle.edit.specs.Rows.{rowStores}
-use Rattle.edit.specs.Run.{run}
+use Rattle.entries.specs.Rows.{rowStores}
+use Rattle.entries.specs.Run.{run}
 use Rattle.forms.proofs.Fields.{index-add}
 use Rattle.forms.specs.Kinds.{requestOf}
 use Rattle.model.specs.Frame.{indexOf}
@@ -17,7 +17,7 @@ use Rattle.edit.proofs.block.flat_blocks.Statement.{statement}
 use Rattle.edit.proofs.block.flat_blocks.Tie as tie
 use Rattle.edit.proofs.block.flat_blocks.Reads as reads
 use Rattle.edit.proofs.block.flat_blocks.Lts as lts
-use Rattle.edit.proofs.rows.flat_entries.Reads as flat-entries-reads
+use Rattle.entries.proofs.rows.flat_entries.Reads as flat-entries-reads
 use Rattle.forms.proofs.words.page_at.Reads as page-at-reads
 
 -- src/block.rt:194:13

@@ -4,10 +4,11 @@ use Prim.Native.Nat.{ℕ, _+_, _^_, _≤_, _<_}
 use native.Mathlib.Omega.{arith}
 use lib.ListN.{drop, getD}
 use Rattle.edit.proofs.BlockRows.{Entrywise, row-stores, row-pages, pieces-entry}
-use Rattle.edit.proofs.RowLaws.{row-none}
+use Rattle.entries.proofs.RowLaws.{row-none}
 use Rattle.edit.specs.Kinds.{freeList, Fresh}
-use Rattle.edit.specs.Rows.{rowStores, piecesWord, Did}
-use Rattle.edit.specs.Run.{run}
+use Rattle.edit.specs.Over.{Did}
+use Rattle.entries.specs.Rows.{rowStores, piecesWord}
+use Rattle.entries.specs.Run.{run}
 use Rattle.forms.proofs.Fields.{index-add}
 use Rattle.forms.specs.Kinds.{requestOf, Fair}
 use Rattle.model.specs.Frame.{blocks, indexOf}
@@ -20,7 +21,7 @@ use Rattle.edit.proofs.block.outside_blocks.Tie as tie
 use Rattle.edit.proofs.block.outside_blocks.Reads as reads
 use Rattle.edit.proofs.block.outside_blocks.Lts as lts
 use Rattle.edit.proofs.block.one_block.Reads as one-block-reads
-use Rattle.edit.proofs.rows.pieces_row.Reads as pieces-row-reads
+use Rattle.entries.proofs.rows.pieces_row.Reads as pieces-row-reads
 use Rattle.forms.proofs.words.page_at.Reads as page-at-reads
 
 -- a first entry with an L1 page: nothing is stored yet

@@ -2,8 +2,8 @@ use mathlib.Core.Path.{_≡_, refl, sym, ap, ap₂, _∙_, subst}
 use mathlib.Core.List.{List, [], _∷_}
 use Prim.Native.Nat.{ℕ, _+_}
 use borrow.Author.Needs.{needs}
-use Rattle.edit.proofs.Places.{changed-l2}
-use Rattle.edit.specs.Run.{run}
+use Rattle.edit.proofs.BlockRows.{changed-l2}
+use Rattle.entries.specs.Run.{run}
 use Rattle.forms.proofs.Fields.{index-add}
 use Rattle.forms.specs.Kinds.{requestOf}
 use Rattle.model.specs.Frame.{indexOf}

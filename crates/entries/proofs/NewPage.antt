@@ -1,0 +1,125 @@
+-- A block that gets a new L1 page: its entries one after another, and the link at the end.
+use mathlib.Core.Path.{_≡_, refl, sym, ap, ap₂, _∙_, subst}
+use mathlib.Core.Bool.{true, false}
+use mathlib.Core.List.{List, [], _∷_, _++_}
+use Prim.Native.Nat.{ℕ, zero, suc, _+_, _-_, _*_, _/_, _≤_, _<_}
+use native.Mathlib.Omega.{arith}
+use lib.ListN.{length}
+use Rattle.entries.proofs.Runs.{run-none, run-on, run-off, run-whole, joined-turn, joined-end}
+use Rattle.entries.specs.Pages.{Plain, newRun}
+use Rattle.entries.specs.Rows.{fillStores}
+use Rattle.entries.specs.Run.{Out, whole, cut, run}
+use Rattle.entries.specs.declared.Budget.{Budget}
+use Rattle.forms.proofs.EntryLaws.{word-outside}
+use Rattle.forms.specs.Kinds.{spreadOf}
+use Rattle.model.specs.Entry.{Entry, flat}
+use Rattle.model.specs.Forms.{Request, inRange, l1Word}
+use Rattle.model.specs.Frame.{Frame, lent, indexOf}
+use Rattle.model.specs.Numbers.{joined}
+use Rattle.model.specs.Stores.{Store, storeAt, storeL2, newTable}
+use Rattle.model.specs.Walk.{entryPage, entryPlace}
+use Rattle.table.specs.Stored.{storeOf}
+use Rattle.table.specs.Views.{frameOf}
+use Rattle.theory.specs.Rooted.{Good}
+use Rattle.entries.proofs.Joined.{joined-append, joined-cong}
+use Rattle.entries.proofs.Places.{Put, frame-same, good-plain, index-next, l1-plain, put-one, store-at}
+use Rattle.table.specs.declared.Frame as code
+
+module _ (f : code.Frame) (q : Request) (e : Entry) (b new : ℕ) (m0 : List ℕ) (left : Budget) (from to : ℕ) where
+  abbrev H : Frame
+  H = frameOf f m0
+
+  pub record New (m : List ℕ) (more : Budget) (i : ℕ) : Type 0 where
+    pub fits : to ≤ 512
+    pub past : from ≤ i
+    pub few : i ≤ to
+    pub size : length m ≡ length m0
+    pub rest : run left (newRun H m0 q e b new (to - from) from) m0 ≡ run more (newRun H m0 q e b new (to - i) i) m
+
+  pub new-start : to ≤ 512 → from ≤ to → New m0 left from
+  new-start fits h = record { fits = fits; past = omega arith; few = h; size = refl; rest = refl }
+
+  abbrev gn : ℕ → List Store
+  gn k = storeAt H new k (l1Word H m0 q e b k) ∷ []
+
+  module _ (low : q .permission < 4) (pl : Plain e) (ln : lent H new ≡ true) (m : List ℕ) (more : Budget) (i : ℕ) (s : New m more i) (h : i < to) (o : Out)
+      (said : o ≡ run more (storeAt (frameOf f m) new i (l1Word (frameOf f m) m q e b i) ∷ []) m) where
+    step-new : o ≡ run more (gn i) m
+    step-new =
+        subst (λ (X : Frame). o ≡ run more (storeAt X new i (l1Word X m q e b i) ∷ []) m) (frame-same f m m0 (s .size)) said
+        ∙ ap (λ (w : ℕ). run more (storeAt H new i w ∷ []) m) (l1-plain (f .paw) (f .first .0) m0 q low b m0 m e i pl)
+
+    turn-new : run more (newRun H m0 q e b new (to - i) i) m ≡ run more (gn i ++ newRun H m0 q e b new (to - (i + 1)) (i + 1)) m
+    turn-new = ap (λ (ss : List Store). run more ss m) (joined-turn gn to i h)
+
+    pub new-cut : {m′ : List ℕ} → o ≡ cut m′ → o ≡ run left (newRun H m0 q e b new (to - from) from) m0
+    new-cut z = z ∙ sym (s .rest ∙ turn-new ∙ run-off more (gn i) m (sym z ∙ step-new) (newRun H m0 q e b new (to - (i + 1)) (i + 1)))
+
+    pub new-next : {l : Budget} {m′ : List ℕ} → o ≡ whole l m′ → New m′ l (i + 1)
+    new-next {l} {m′} z =
+        let wrote : Put H m m′ new i (l1Word H m0 q e b i)
+        = put-one (f .paw) (f .first .0) m0 m (s .size) new i (l1Word H m0 q e b i) ln (omega (arith, s .fits)) m′ (run-whole more (gn i) m l m′ (sym step-new ∙ z) .1) in
+        record {
+          fits = s .fits;
+          past = omega (arith, s .past);
+          few = omega arith;
+          size = wrote .size ∙ s .size;
+          rest = s .rest ∙ turn-new ∙ run-on more (gn i) m (sym z ∙ step-new) (newRun H m0 q e b new (to - (i + 1)) (i + 1));
+        }
+
+  pub new-end : (m : List ℕ) (more : Budget) (i : ℕ) → New m more i → to ≤ i → whole more m ≡ run left (newRun H m0 q e b new (to - from) from) m0
+  new-end m more i s h =
+      let z : to - i ≡ 0 = omega arith in
+      sym (s .rest ∙ ap (λ (ss : List Store). run more ss m) (joined-end (λ k. storeAt H new k (l1Word H m0 q e b k) ∷ []) (to - i) i z) ∙ run-none more m)
+
+module _ (f : code.Frame) (q : Request) (low : q .permission < 4) (e : Entry) (pl : Plain e) (b new : ℕ) (m0 : List ℕ) where
+  -- the stores of a run follow from the block's entry, and not from the memory
+  pub run-same : (m : List ℕ) → length m ≡ length m0 → (n i : ℕ) → newRun (frameOf f m) m q e b new n i ≡ newRun (frameOf f m0) m0 q e b new n i
+  run-same m len n i =
+      ap (λ (X : Frame). newRun X m q e b new n i) (frame-same f m m0 len)
+      ∙ joined-cong (λ k. storeAt (frameOf f m0) new k (l1Word (frameOf f m0) m q e b k) ∷ []) (λ k. storeAt (frameOf f m0) new k (l1Word (frameOf f m0) m0 q e b k) ∷ []) n i
+      (λ k lo hi. ap (λ (w : ℕ). storeAt (frameOf f m0) new k w ∷ []) (l1-plain (f .paw) (f .first .0) m0 q low b m0 m e k pl))
+
+  pub good-same : Good (frameOf f m0) m0 e → (m : List ℕ) → length m ≡ length m0 → Good (frameOf f m) m e
+  good-same g m len = subst (λ (X : Frame). Good X m e) (sym (frame-same f m m0 len)) (good-plain (frameOf f m0) m0 m e pl g)
+
+  pub lent-same : lent (frameOf f m0) new ≡ true → (m : List ℕ) → length m ≡ length m0 → lent (frameOf f m) new ≡ true
+  lent-same h m len = subst (λ (X : Frame). lent X new ≡ true) (sym (frame-same f m m0 len)) h
+
+  pub run-parts : (from to : ℕ) → from ≤ to → to ≤ 512
+      → newTable (frameOf f m0) m0 q e b new
+      ≡ newRun (frameOf f m0) m0 q e b new (from - 0) 0 ++ (newRun (frameOf f m0) m0 q e b new (to - from) from ++ newRun (frameOf f m0) m0 q e b new (512 - to) to)
+  unfolding newTable
+  run-parts from to h fits =
+      let g : ℕ → List Store = λ k. storeAt (frameOf f m0) new k (l1Word (frameOf f m0) m0 q e b k) ∷ [] in
+      let u : 512 ≡ (from - 0) + ((to - from) + (512 - to)) = omega arith in
+      let v : 0 + (from - 0) ≡ from = omega arith in
+      let w : from + (to - from) ≡ to = omega arith in
+      ap (λ (n : ℕ). joined g n 0) u
+      ∙ joined-append g (from - 0) ((to - from) + (512 - to)) 0
+      ∙ ap (λ (l : List Store). joined g (from - 0) 0 ++ l)
+      (ap (joined g ((to - from) + (512 - to))) v ∙ joined-append g (to - from) (512 - to) from ∙ ap (λ (k : ℕ). joined g (to - from) from ++ joined g (512 - to) k) w)
+
+-- the last store of a block that gets a page: the L2 entry
+pub link-end : (f : code.Frame) (root b w : ℕ) (left : Budget) (ss : List Store) (m : List ℕ) (l : Budget) (m′ : List ℕ) (o : Out) (at : ℕ) → whole l m′ ≡ run left ss m → length m′ ≡ length m
+    → o ≡ run l (storeOf at w ∷ []) m′ → at ≡ indexOf (frameOf f m′) root b → o ≡ run left (ss ++ (storeL2 (frameOf f m) root b w ∷ [])) m
+unfolding storeL2 entryPage entryPlace
+link-end f root b w left ss m l m′ o at e len said z =
+    said
+    ∙ ap (λ (ts : List Store). run l ts m′) (store-at (frameOf f m′) root b w at z ∙ ap (λ (X : Frame). storeAt X root b w ∷ []) (frame-same f m′ m len))
+    ∙ sym (run-on left ss m e (storeAt (frameOf f m) root b w ∷ []))
+
+-- ---- entries outside the range, of a block of one permission: all are the same word
+
+module _ (f : code.Frame) (m : List ℕ) (q : Request) (low : q .permission < 4) (p : ℕ) (small : p < 4) (b new : ℕ) where
+  pub fill-run : (n i : ℕ) → i + n ≤ 512 → ((k : ℕ) → b * 8192 + i * 16 ≤ k → k < b * 8192 + i * 16 + n * 16 → inRange q k ≡ false)
+      → fillStores (spreadOf p) n (indexOf (frameOf f m) new i) ≡ newRun (frameOf f m) m q (flat p) b new n i
+  unfolding joined
+  fill-run zero i h o = refl
+  fill-run (suc n) i h o =
+      let word : spreadOf p ≡ l1Word (frameOf f m) m q (flat p) b i
+      = word-outside (f .paw) (f .first .0) (length m / 512) m q low (flat p) small b i (omega arith) (omega arith) (λ k lo hi. o k lo (omega arith)) in
+      let next : suc (indexOf (frameOf f m) new i) ≡ indexOf (frameOf f m) new (suc i) = index-next (frameOf f m) new i in
+      ap₂ (λ (x y : List Store). x ++ y)
+      (store-at (frameOf f m) new i (spreadOf p) (indexOf (frameOf f m) new i) refl ∙ ap (λ (w : ℕ). storeAt (frameOf f m) new i w ∷ []) word)
+      (ap (fillStores (spreadOf p) n) next ∙ fill-run n (suc i) (omega arith) (λ k lo hi. o k (omega arith) (omega arith)))
