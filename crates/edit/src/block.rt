@@ -2,8 +2,8 @@
 use crate::Step;
 use entries::Budget;
 use entries::Went;
-use entries::pages::link_table;
-use entries::pages::own_table;
+use entries::link::link_table;
+use entries::own::own_table;
 use entries::put::put_changed;
 use entries::rows::flat_entries;
 use entries::rows::pieces_row;

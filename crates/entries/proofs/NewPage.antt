@@ -20,9 +20,8 @@ use Rattle.model.specs.Stores.{Store, storeAt, storeL2, newTable}
 use Rattle.model.specs.Walk.{entryPage, entryPlace}
 use Rattle.table.specs.Stored.{storeOf}
 use Rattle.table.specs.Views.{frameOf}
-use Rattle.theory.specs.Rooted.{Good}
 use Rattle.entries.proofs.Joined.{joined-append, joined-cong}
-use Rattle.entries.proofs.Places.{Put, frame-same, good-plain, index-next, l1-plain, put-one, store-at}
+use Rattle.entries.proofs.Places.{Put, frame-same, index-next, l1-plain, put-one, store-at}
 use Rattle.table.specs.declared.Frame as code
 
 module _ (f : code.Frame) (q : Request) (e : Entry) (b new : ℕ) (m0 : List ℕ) (left : Budget) (from to : ℕ) where
@@ -80,12 +79,6 @@ module _ (f : code.Frame) (q : Request) (low : q .permission < 4) (e : Entry) (p
       ∙ joined-cong (λ k. storeAt (frameOf f m0) new k (l1Word (frameOf f m0) m q e b k) ∷ []) (λ k. storeAt (frameOf f m0) new k (l1Word (frameOf f m0) m0 q e b k) ∷ []) n i
       (λ k lo hi. ap (λ (w : ℕ). storeAt (frameOf f m0) new k w ∷ []) (l1-plain (f .paw) (f .first .0) m0 q low b m0 m e k pl))
 
-  pub good-same : Good (frameOf f m0) m0 e → (m : List ℕ) → length m ≡ length m0 → Good (frameOf f m) m e
-  good-same g m len = subst (λ (X : Frame). Good X m e) (sym (frame-same f m m0 len)) (good-plain (frameOf f m0) m0 m e pl g)
-
-  pub lent-same : lent (frameOf f m0) new ≡ true → (m : List ℕ) → length m ≡ length m0 → lent (frameOf f m) new ≡ true
-  lent-same h m len = subst (λ (X : Frame). lent X new ≡ true) (sym (frame-same f m m0 len)) h
-
   pub run-parts : (from to : ℕ) → from ≤ to → to ≤ 512
       → newTable (frameOf f m0) m0 q e b new
       ≡ newRun (frameOf f m0) m0 q e b new (from - 0) 0 ++ (newRun (frameOf f m0) m0 q e b new (to - from) from ++ newRun (frameOf f m0) m0 q e b new (512 - to) to)
@@ -101,13 +94,9 @@ module _ (f : code.Frame) (q : Request) (low : q .permission < 4) (e : Entry) (p
       (ap (joined g ((to - from) + (512 - to))) v ∙ joined-append g (to - from) (512 - to) from ∙ ap (λ (k : ℕ). joined g (to - from) from ++ joined g (512 - to) k) w)
 
 -- the last store of a block that gets a page: the L2 entry
-pub link-end : (f : code.Frame) (root b w : ℕ) (left : Budget) (ss : List Store) (m : List ℕ) (l : Budget) (m′ : List ℕ) (o : Out) (at : ℕ) → whole l m′ ≡ run left ss m → length m′ ≡ length m
-    → o ≡ run l (storeOf at w ∷ []) m′ → at ≡ indexOf (frameOf f m′) root b → o ≡ run left (ss ++ (storeL2 (frameOf f m) root b w ∷ [])) m
+pub store-l2 : (F : Frame) (root b w at : ℕ) → at ≡ indexOf F root b → (storeOf at w ∷ []) ≡ storeL2 F root b w ∷ []
 unfolding storeL2 entryPage entryPlace
-link-end f root b w left ss m l m′ o at e len said z =
-    said
-    ∙ ap (λ (ts : List Store). run l ts m′) (store-at (frameOf f m′) root b w at z ∙ ap (λ (X : Frame). storeAt X root b w ∷ []) (frame-same f m′ m len))
-    ∙ sym (run-on left ss m e (storeAt (frameOf f m) root b w ∷ []))
+store-l2 F root b w at z = store-at F root b w at z
 
 -- ---- entries outside the range, of a block of one permission: all are the same word
 

@@ -126,3 +126,11 @@ good-plain F m m′ (flat p) pl g = g
 good-plain F m m′ (pieces i) pl g = g
 good-plain F m m′ (table t) pl g = absurd pl
 good-plain F m m′ invalid pl g = g
+
+-- what is asked of a page and of an entry, once stores have been made
+module _ (f : code.Frame) (m m′ : List ℕ) (len : length m′ ≡ length m) where
+  pub lent-same : (x : ℕ) → lent (frameOf f m) x ≡ true → lent (frameOf f m′) x ≡ true
+  lent-same x h = subst (λ (X : Frame). lent X x ≡ true) (sym (frame-same f m′ m len)) h
+
+  pub good-same : (e : Entry) → Plain e → Good (frameOf f m) m e → Good (frameOf f m′) m′ e
+  good-same e pl g = subst (λ (X : Frame). Good X m′ e) (sym (frame-same f m′ m len)) (good-plain (frameOf f m) m m′ e pl g)

@@ -2,15 +2,16 @@ use mathlib.Core.Path.{sym, ap, _∙_}
 use mathlib.Core.List.{List}
 use native.Mathlib.Omega.{arith}
 use borrow.Author.Tests.{not-true, not-false}
-use Rattle.entries.proofs.NewPage.{run-same, run-parts, good-same, lent-same}
+use Rattle.entries.proofs.NewPage.{run-same, run-parts}
+use Rattle.entries.proofs.Places.{lent-same, good-same}
 use Rattle.entries.proofs.Runs.{out-whole, out-cut, first-cut, then-rest}
 use Rattle.entries.specs.Run.{run}
 use Rattle.forms.specs.Kinds.{requestOf}
 use Rattle.model.specs.Stores.{Store}
 use Rattle.table.specs.Views.{entryOf}
 use borrow.Author.Needs.{needs}
-use Rattle.entries.proofs.pages.new_table.Statement.{statement}
-use Rattle.entries.proofs.pages.new_table.Tie as tie
+use Rattle.entries.proofs.fresh.stores.Statement.{statement}
+use Rattle.entries.proofs.fresh.stores.Tie as tie
 
 first-entry-requires : tie.Need-first-entry-requires
 first-entry-requires c κs = search needs
@@ -46,8 +47,8 @@ new-entries-requires c κs = let oe = c .before .before .before .before .before 
       n .near-end .ensures .1,
       n .near-end .ensures .0,
       s .pre .1,
-      good-same (a .f) (requestOf (a .q)) (s .pre .1 .small) (entryOf (a .e)) (s .pre .4) (a .b) (a .new .0) (a .words .now) (s .pre .2) (r .last .1 .0) (r .kept .1 .0),
-      lent-same (a .f) (requestOf (a .q)) (s .pre .1 .small) (entryOf (a .e)) (s .pre .4) (a .b) (a .new .0) (a .words .now) (s .pre .3) (r .last .1 .0) (r .kept .1 .0),
+      good-same (a .f) (a .words .now) (r .last .1 .0) (r .kept .1 .0) (entryOf (a .e)) (s .pre .4) (s .pre .2),
+      lent-same (a .f) (a .words .now) (r .last .1 .0) (r .kept .1 .0) (a .new .0) (s .pre .3),
       s .pre .4,
     )
 
@@ -83,8 +84,8 @@ old-entries-requires-2 c κs = let ne = c .before .before .before .before .befor
       omega arith,
       n .near-end .ensures .1,
       s .pre .1,
-      good-same (a .f) (requestOf (a .q)) (s .pre .1 .small) (entryOf (a .e)) (s .pre .4) (a .b) (a .new .0) (a .words .now) (s .pre .2) (t .last .1 .0) (t .kept .1 .0 ∙ r .kept .1 .0),
-      lent-same (a .f) (requestOf (a .q)) (s .pre .1 .small) (entryOf (a .e)) (s .pre .4) (a .b) (a .new .0) (a .words .now) (s .pre .3) (t .last .1 .0) (t .kept .1 .0 ∙ r .kept .1 .0),
+      good-same (a .f) (a .words .now) (t .last .1 .0) (t .kept .1 .0 ∙ r .kept .1 .0) (entryOf (a .e)) (s .pre .4) (s .pre .2),
+      lent-same (a .f) (a .words .now) (t .last .1 .0) (t .kept .1 .0 ∙ r .kept .1 .0) (a .new .0) (s .pre .3),
       s .pre .4,
       λ k lo hi. n .near-end .ensures .2 k (omega arith) (omega (arith, n .near-end .ensures .1)),
     )
@@ -111,8 +112,8 @@ returns-3 c = let u = c .before .before .old-entries2 in
     (u .ensures ∙ ap (λ (ss : List Store). run (t .result .left) ss (t .last .1 .0)) (run-same (a .f) (requestOf (a .q)) (s .pre .1 .small) (entryOf (a .e)) (s .pre .4) (a .b) (a .new .0) (a .words .now) (t .last .1 .0) (t .kept .1 .0 ∙ r .kept .1 .0) _ _)))
     ∙ ap (λ (ss : List Store). run (a .left) ss (a .words .now)) (sym (run-parts (a .f) (requestOf (a .q)) (s .pre .1 .small) (entryOf (a .e)) (s .pre .4) (a .b) (a .new .0) (a .words .now) (fe .first-entry .result) (n .near-end .result) (n .near-end .ensures .0) (n .near-end .ensures .1)))
 
-pub new-table-spec : {M : Type 1} → statement M
-new-table-spec =
+pub stores-spec : {M : Type 1} → statement M
+stores-spec =
     tie.close
     (tie.spec
     first-entry-requires

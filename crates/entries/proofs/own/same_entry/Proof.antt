@@ -10,8 +10,8 @@ use Rattle.model.specs.Forms.{l1Word}
 use Rattle.model.specs.Frame.{indexOf}
 use Rattle.model.specs.Stores.{Store, ifChanged, storeAt}
 use Rattle.table.specs.Views.{frameOf, entryOf}
-use Rattle.entries.proofs.pages.same_entry.Statement.{statement}
-use Rattle.entries.proofs.pages.same_entry.Tie as tie
+use Rattle.entries.proofs.own.same_entry.Statement.{statement}
+use Rattle.entries.proofs.own.same_entry.Tie as tie
 
 page-at-requires : tie.Need-page-at-requires
 page-at-requires c κs = search needs

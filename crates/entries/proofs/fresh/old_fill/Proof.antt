@@ -14,11 +14,11 @@ use Rattle.model.specs.Stores.{Store}
 use Rattle.table.specs.Views.{frameOf, entryOf}
 use Rattle.theory.specs.Rooted.{Good}
 use borrow.Author.Needs.{needs}
-use Rattle.entries.proofs.pages.old_fill.Statement.{statement}
-use Rattle.entries.proofs.pages.old_fill.Tie as tie
-use Rattle.entries.proofs.pages.old_fill.Reads as reads
-use Rattle.entries.proofs.pages.old_fill.Lts as lts
-use Rattle.entries.proofs.pages.old_loop.Reads as old-loop-reads
+use Rattle.entries.proofs.fresh.old_fill.Statement.{statement}
+use Rattle.entries.proofs.fresh.old_fill.Tie as tie
+use Rattle.entries.proofs.fresh.old_fill.Reads as reads
+use Rattle.entries.proofs.fresh.old_fill.Lts as lts
+use Rattle.entries.proofs.fresh.old_loop.Reads as old-loop-reads
 use Rattle.entries.proofs.rows.fill.Reads as fill-reads
 use Rattle.forms.proofs.words.page_at.Reads as page-at-reads
 use Rattle.forms.proofs.words.spread.Reads as spread-reads

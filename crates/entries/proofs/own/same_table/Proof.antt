@@ -14,8 +14,8 @@ use Rattle.forms.specs.Kinds.{requestOf}
 use Rattle.model.specs.Entry.{table}
 use Rattle.table.specs.Views.{frameOf, entryOf}
 use Rattle.theory.specs.Rooted.{Good}
-use Rattle.entries.proofs.pages.same_table.Statement.{statement}
-use Rattle.entries.proofs.pages.same_table.Tie as tie
+use Rattle.entries.proofs.own.same_table.Statement.{statement}
+use Rattle.entries.proofs.own.same_table.Tie as tie
 
 abbrev Inv-loop : tie.InvT-loop
 Inv-loop f words₀ q t b from to more₀ i₀ words more i = Same f (requestOf q) (t .0) b words₀ more₀ words more i

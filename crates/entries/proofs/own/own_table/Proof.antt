@@ -3,8 +3,8 @@ use native.Mathlib.Omega.{arith}
 use borrow.Author.Needs.{needs}
 use Rattle.entries.proofs.OwnPage.{own-none}
 use Rattle.forms.specs.Kinds.{requestOf}
-use Rattle.entries.proofs.pages.own_table.Statement.{statement}
-use Rattle.entries.proofs.pages.own_table.Tie as tie
+use Rattle.entries.proofs.own.own_table.Statement.{statement}
+use Rattle.entries.proofs.own.own_table.Tie as tie
 
 mul-lies : tie.Need-mul-lies
 mul-lies c = search needs

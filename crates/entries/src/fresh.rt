@@ -1,13 +1,11 @@
-// The stores of a block that is to have an L1 page.
+// The stores that fill a new L1 page.
 use crate::Budget;
 use crate::Went;
 use crate::put::put;
-use crate::put::put_changed;
 use crate::rows::fill;
 use forms::Place;
 use forms::Request;
 use forms::range::first_entry;
-use forms::range::lies;
 use forms::range::past_entry;
 use forms::words::after_word;
 use forms::words::old_word;
@@ -19,89 +17,16 @@ use table::PageNumber;
 ghost use mathlib.Core.Path.{_≡_};
 ghost use mathlib.Core.Bool.{true};
 ghost use mathlib.Core.List.{[], _∷_};
-ghost use Prim.Native.Nat.{_+_, _-_, _*_, _≤_, _<_, _^_};
+ghost use Prim.Native.Nat.{_+_, _-_, _*_, _≤_, _<_};
 ghost use Rattle.entries.specs.Pages.{Plain, newRun};
 ghost use Rattle.entries.specs.Run.{out, run};
 ghost use Rattle.forms.specs.Kinds.{requestOf, Fair, Lies, Past};
 ghost use Rattle.model.specs.Forms.{l1Word};
 ghost use Rattle.model.specs.Frame.{lent};
-ghost use Rattle.model.specs.Stores.{storeAt, ifChanged, sameTable, newTable, linkTable};
+ghost use Rattle.model.specs.Stores.{storeAt, newTable};
 ghost use Rattle.table.specs.Views.{frameOf, entryOf};
 ghost use Rattle.theory.specs.Rooted.{Good};
 ghost use Rattle.model.specs.Entry as entry;
-
-// L1 entry i of block b, in the block's own page t.
-pub fn same_entry(
-    f: Frame,
-    words: &mut [u64],
-    q: Request,
-    t: PageNumber,
-    b: u64,
-    i: u64,
-    left: Budget,
-) -> Went
-    requires { ⌜ (b < 512) × (i < 512) × Fair q × Good (frameOf f (now words)) (now words) (entry.table (t .0)) ⌝ }
-    ensures { λ r. ⌜ out (r .all) (r .left) (now (words .exit))
-        ≡ run left (ifChanged (frameOf f (now (words .entry))) (now (words .entry)) (t .0) i
-        (l1Word (frameOf f (now (words .entry))) (now (words .entry)) (requestOf q) (entry.table (t .0)) b i)) (now (words .entry)) ⌝ }
-{
-    let at = page_at(f, words, t) + i as usize;
-    let word = after_word(f, words, q, Entry::Table(t), b, i);
-    put_changed(words, left, at, word)
-}
-
-// Those L1 entries of block b that change, in order, in the block's own page t. Entries that lie outside the range stay: they are not read.
-pub fn same_table(
-    f: Frame,
-    words: &mut [u64],
-    q: Request,
-    t: PageNumber,
-    b: u64,
-    left: Budget,
-) -> Went
-    requires { ⌜ (b < 512) × Fair q × Good (frameOf f (now words)) (now words) (entry.table (t .0)) ⌝ }
-    ensures { λ r. ⌜ out (r .all) (r .left) (now (words .exit))
-        ≡ run left (sameTable (frameOf f (now (words .entry))) (now (words .entry)) (requestOf q) (entry.table (t .0)) b (t .0)) (now (words .entry)) ⌝ }
-{
-    let from = first_entry(q, b);
-    let to = past_entry(q, b);
-    let mut more = left;
-    for i in from..to {
-        let went = same_entry(f, words, q, t, b, i, more);
-        if !went.all {
-            return went;
-        }
-        let rest = went.left;
-        more = rest;
-    }
-    Went {
-        all: true,
-        left: more,
-    }
-}
-
-// The same; outside the range no entry changes.
-pub fn own_table(
-    f: Frame,
-    words: &mut [u64],
-    q: Request,
-    t: PageNumber,
-    b: u64,
-    left: Budget,
-) -> Went
-    requires { ⌜ (b < 512) × Fair q × Good (frameOf f (now words)) (now words) (entry.table (t .0)) ⌝ }
-    ensures { λ r. ⌜ out (r .all) (r .left) (now (words .exit))
-        ≡ run left (sameTable (frameOf f (now (words .entry))) (now (words .entry)) (requestOf q) (entry.table (t .0)) b (t .0)) (now (words .entry)) ⌝ }
-{
-    match lies(q, b * 8192, 8192) {
-        Place::Outside => Went {
-            all: true,
-            left: left,
-        },
-        Place::Inside => same_table(f, words, q, t, b, left),
-        Place::Across => same_table(f, words, q, t, b, left),
-    }
-}
 
 // L1 entry i of block b, in the new page.
 pub fn new_entry(
@@ -276,7 +201,7 @@ pub fn near_end(q: Request, b: u64, from: u64) -> u64
 }
 
 // All entries of a new page, in order: those below the range, those that it can meet, and those above.
-pub fn new_table(
+pub fn stores(
     f: Frame,
     words: &mut [u64],
     q: Request,
@@ -302,29 +227,4 @@ pub fn new_table(
     }
     let rest = near.left;
     old_entries(f, words, q, e, b, new, to, 512, rest)
-}
-
-// A new page, and then the L2 entry that names it.
-pub fn link_table(
-    f: Frame,
-    words: &mut [u64],
-    q: Request,
-    root: PageNumber,
-    e: Entry,
-    b: u64,
-    new: PageNumber,
-    left: Budget,
-) -> Went
-    requires { ⌜ (b < 512) × Fair q × Good (frameOf f (now words)) (now words) (entryOf e) × (lent (frameOf f (now words)) (new .0) ≡ true) × Plain (entryOf e)
-        × (lent (frameOf f (now words)) (root .0) ≡ true) × (new .0 < 2 ^ 44) ⌝ }
-    ensures { λ r. ⌜ out (r .all) (r .left) (now (words .exit))
-        ≡ run left (linkTable (frameOf f (now (words .entry))) (now (words .entry)) (requestOf q) (root .0) (entryOf e) b (new .0)) (now (words .entry)) ⌝ }
-{
-    let went = new_table(f, words, q, e, b, new, left);
-    if !went.all {
-        return went;
-    }
-    let at = page_at(f, words, root) + b as usize;
-    let rest = went.left;
-    put(words, rest, at, 0x4000_0000_0000 + new.0)
 }
