@@ -10,7 +10,9 @@ use lib.ListN.{length, getD, length-set}
 use lib.Seq.{getD-set-same}
 use borrow.Author.Tests.{eqb-true, eqb-false, lt-ltb}
 use Rattle.entries.specs.Pages.{Plain}
-use Rattle.forms.proofs.Fields.{lent-in}
+use Rattle.entries.specs.Run.{Out, run}
+use Rattle.entries.specs.declared.Budget.{Budget}
+use Rattle.forms.proofs.Fields.{lent-in, index-add}
 use Rattle.forms.proofs.EntryLaws.{after-small, after-16}
 use Rattle.laws.proofs.Choices.{split}
 use Rattle.laws.proofs.Digits.{pack-cong, digit-pack}
@@ -20,7 +22,7 @@ use Rattle.model.specs.Forms.{Request, inRange, permOf, afterIn, l1Word}
 use Rattle.model.specs.Frame.{Frame, lent, wordAt, indexOf}
 use Rattle.model.specs.Layout.{rv64}
 use Rattle.model.specs.Numbers.{if_then_else_, digit, pack}
-use Rattle.model.specs.Stores.{apply, storeAt, ifChanged}
+use Rattle.model.specs.Stores.{Store, apply, storeAt, ifChanged}
 use Rattle.model.specs.Walk.{pn1}
 use Rattle.table.specs.Stored.{storeOf}
 use Rattle.table.specs.Views.{frameOf}
@@ -34,10 +36,6 @@ use Rattle.table.specs.declared.Frame as code
 pub frame-same : (f : code.Frame) (m m′ : List ℕ) → length m ≡ length m′ → frameOf f m ≡ frameOf f m′
 frame-same f m m′ e = ap (λ (n : ℕ). record { layout = rv64; paw = f .paw; first = f .first .0; pages = n / 512 }) e
 
-pub changed-at : (F : Frame) (m : List ℕ) (p i w at : ℕ) → at ≡ indexOf F p i → (if eqb (getD m at 0) w then [] else storeOf at w ∷ []) ≡ ifChanged F m p i w
-unfolding ifChanged wordAt storeAt
-changed-at F m p i w at e = ap (λ (k : ℕ). if eqb (getD m k 0) w then [] else storeOf k w ∷ []) e
-
 -- the entry behind it stands at the next word
 pub index-next : (F : Frame) (p i : ℕ) → suc (indexOf F p i) ≡ indexOf F p (suc i)
 unfolding indexOf
@@ -46,6 +44,20 @@ index-next F p i = omega arith
 pub store-at : (F : Frame) (p i w at : ℕ) → at ≡ indexOf F p i → (storeOf at w ∷ []) ≡ storeAt F p i w ∷ []
 unfolding storeAt
 store-at F p i w at e = ap (λ (k : ℕ). storeOf k w ∷ []) e
+
+-- ---- what the code stores at place i of the page that starts at word `start`: w, which it worked out to be w′
+
+module _ (F : Frame) (p i start : ℕ) (starts : start ≡ indexOf F p 0) where
+  pub place : start + i ≡ indexOf F p i
+  place = ap (λ (k : ℕ). k + i) starts ∙ index-add F p i
+
+  module _ (left : Budget) (m : List ℕ) {o : Out} {w w′ : ℕ} (is : w ≡ w′) where
+    pub stored : o ≡ run left (storeOf (start + i) w ∷ []) m → o ≡ run left (storeAt F p i w′ ∷ []) m
+    stored said = said ∙ ap₂ (λ (at x : ℕ). run left (storeOf at x ∷ []) m) place is ∙ ap (λ (ss : List Store). run left ss m) (store-at F p i w′ _ refl)
+
+    pub stored-if : o ≡ run left (if eqb (getD m (start + i) 0) w then [] else storeOf (start + i) w ∷ []) m → o ≡ run left (ifChanged F m p i w′) m
+    unfolding ifChanged wordAt storeAt
+    stored-if said = said ∙ ap₂ (λ (at x : ℕ). run left (if eqb (getD m at 0) x then [] else storeOf at x ∷ []) m) place is
 
 -- m′ is m with w at entry i of page p
 pub record Put (F : Frame) (m m′ : List ℕ) (p i w : ℕ) : Type 0 where

@@ -1,15 +1,16 @@
 -- Making a list of stores up to a limit.
 use mathlib.Core.Path.{_≡_, refl, sym, ap, ap₂, _∙_, subst}
-use mathlib.Core.Bool.{Bool, true, false}
+use mathlib.Core.Bool.{Bool, true, false, not}
 use mathlib.Core.List.{List, [], _∷_, _++_}
 use Prim.Native.Nat.{ℕ, zero, suc, _+_, _*_, _-_, _≤_, _<_}
 use native.Mathlib.Omega.{arith}
 use native.Mathlib.Numerals.{add-one}
 use lib.Dec.{eqb, leb}
 use lib.ListN.{length, take, set, length-set}
-use borrow.Author.Tests.{le-leb, lt-leb}
+use borrow.Author.Tests.{not-true, not-false}
 use Rattle.entries.specs.Run.{Out, whole, cut, out, andThen, runFrom, run}
 use Rattle.entries.specs.declared.Budget.{Budget}
+use Rattle.entries.specs.declared.Went.{Went}
 use Rattle.model.specs.Numbers.{joined}
 use Rattle.model.specs.Stores.{Store, apply}
 use Rattle.table.specs.Stored.{storeOf}
@@ -54,13 +55,23 @@ from-short (suc more) last (s ∷ ss) m n e = let r = from-short more (s .at) ss
 pub run-short : (left : Budget) (ss : List Store) (m n : List ℕ) → run left ss m ≡ cut n → (left .more < length ss) × (n ≡ apply (take (left .more) ss) m)
 run-short left ss m n e = from-short (left .more) (left .last) ss m n e
 
--- ---- a list of stores that is joined from a run of lists
+-- ---- what a function says of its stores: all were made, or the limit cut them
 
 pub out-whole : (all : Bool) (l : Budget) (n : List ℕ) → all ≡ true → out all l n ≡ whole l n
 out-whole all l n z = ap (λ (b : Bool). out b l n) z
 
 pub out-cut : (all : Bool) (l : Budget) (n : List ℕ) → all ≡ false → out all l n ≡ cut n
 out-cut all l n z = ap (λ (b : Bool). out b l n) z
+
+-- the same from the code's test, which asks whether not all were made
+module _ (r : Went) (n : List ℕ) where
+  pub went-whole : not (r .all) ≡ false → out (r .all) (r .left) n ≡ whole (r .left) n
+  went-whole z = out-whole (r .all) (r .left) n (not-false (r .all) z)
+
+  pub went-cut : not (r .all) ≡ true → out (r .all) (r .left) n ≡ cut n
+  went-cut z = out-cut (r .all) (r .left) n (not-true (r .all) z)
+
+-- ---- a list of stores that is joined from a run of lists
 
 module _ (left : Budget) (ss : List Store) (m : List ℕ) where
   -- the first stores are all made: the rest goes on from there

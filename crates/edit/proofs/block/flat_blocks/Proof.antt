@@ -7,7 +7,7 @@ use Rattle.edit.proofs.BlockRows.{Entrywise, row-stores, row-pages, fla
 use Rattle.edit.specs.Kinds.{freeList}
 use Rattle.entries.specs.Rows.{rowStores}
 use Rattle.entries.specs.Run.{run}
-use Rattle.forms.proofs.Fields.{index-add}
+use Rattle.entries.proofs.Places.{place}
 use Rattle.forms.specs.Kinds.{requestOf}
 use Rattle.model.specs.Frame.{indexOf}
 use Rattle.model.specs.Stores.{Store}
@@ -52,7 +52,7 @@ returns c =
     let m = a .words .now in
     let F = frameOf (a .f) m in
     let n = 32 - a .b % 32 in
-    let at : c .before .before .before .before .before .before .page-at .result + a .b ≡ indexOf F (a .root .0) (a .b) = ap (λ (k : ℕ). k + a .b) (c .before .before .before .before .before .before .page-at .ensures .0) ∙ index-add F (a .root .0) (a .b) in
+    let at : c .before .before .before .before .before .before .page-at .result + a .b ≡ indexOf F (a .root .0) (a .b) = place F (a .root .0) (a .b) _ (c .before .before .before .before .before .before .page-at .ensures .0) in
     let flat : (x : ℕ) → a .b ≤ x → x < a .b + n → Entrywise F m (requestOf (a .q)) (a .root .0) (a .gib) (λ w. a .gib .p * 0x1000_0000_0000) x
     = λ x lo hi. flat-entry (a .f) m (requestOf (a .q)) (a .root .0) (a .gib) (s .pre .3) x in
     record {

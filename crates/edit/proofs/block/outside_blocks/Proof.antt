@@ -9,7 +9,7 @@ use Rattle.edit.specs.Kinds.{freeList, Fresh}
 use Rattle.edit.specs.Over.{Did}
 use Rattle.entries.specs.Rows.{rowStores, piecesWord}
 use Rattle.entries.specs.Run.{run}
-use Rattle.forms.proofs.Fields.{index-add}
+use Rattle.entries.proofs.Places.{place}
 use Rattle.forms.specs.Kinds.{requestOf, Fair}
 use Rattle.model.specs.Frame.{blocks, indexOf}
 use Rattle.model.specs.Stores.{Store}
@@ -79,10 +79,10 @@ returns-2 c =
     let F = frameOf (a .f) m in
     let r = c .before .before .before .before .before .pieces-row in
     let n = r .result .count in
-    let at : c .before .before .before .before .before .before .before .page-at .result + a .b ≡ indexOf F (a .root .0) (a .b) = ap (λ (k : ℕ). k + a .b) (c .before .before .before .before .before .before .before .page-at .ensures .0) ∙ index-add F (a .root .0) (a .b) in
+    let at : c .before .before .before .before .before .before .before .page-at .result + a .b ≡ indexOf F (a .root .0) (a .b) = place F (a .root .0) (a .b) _ (c .before .before .before .before .before .before .before .page-at .ensures .0) in
     let row : (x : ℕ) → a .b ≤ x → x < a .b + n → Entrywise F m (requestOf (a .q)) (a .root .0) (a .gib) piecesWord x
     = λ x lo hi.
-    let k : c .before .before .before .before .before .before .before .page-at .result + x ≡ indexOf F (a .root .0) x = ap (λ (y : ℕ). y + x) (c .before .before .before .before .before .before .before .page-at .ensures .0) ∙ index-add F (a .root .0) x in
+    let k : c .before .before .before .before .before .before .before .page-at .result + x ≡ indexOf F (a .root .0) x = place F (a .root .0) x _ (c .before .before .before .before .before .before .before .page-at .ensures .0) in
     pieces-entry (a .f) m (requestOf (a .q)) (a .root .0) (a .gib) (s .pre .2 .small) (s .pre .6) (s .pre .0 .isLent) x (s .pre .0 .good x (omega (arith, s .pre .1, r .ensures .0)))
     (λ y l u. s .pre .9 y (omega arith) (omega (arith, r .ensures .0)))
     (subst (λ (y : ℕ). piecesWord (getD m y 0) ≡ 0 → ⊥) k (r .ensures .1 _ (omega arith) (omega arith))) in

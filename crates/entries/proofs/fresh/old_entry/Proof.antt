@@ -1,16 +1,10 @@
-use mathlib.Core.Path.{_≡_, refl, sym, ap, ap₂, _∙_, subst}
-use mathlib.Core.List.{List, [], _∷_}
-use Prim.Native.Nat.{ℕ, _+_, _/_, _<_, _^_}
+use mathlib.Core.Path.{_∙_, subst}
+use Prim.Native.Nat.{ℕ, _/_, _<_, _^_}
 use lib.ListN.{length}
 use borrow.Author.Needs.{needs}
-use Rattle.entries.proofs.Places.{changed-at, store-at}
-use Rattle.entries.specs.Run.{run}
-use Rattle.forms.proofs.Fields.{index-add}
+use Rattle.entries.proofs.Places.{stored}
 use Rattle.forms.proofs.EntryLaws.{word-outside}
 use Rattle.forms.specs.Kinds.{requestOf}
-use Rattle.model.specs.Forms.{l1Word}
-use Rattle.model.specs.Frame.{indexOf}
-use Rattle.model.specs.Stores.{Store, ifChanged, storeAt}
 use Rattle.table.specs.Views.{frameOf, entryOf}
 use Rattle.entries.proofs.fresh.old_entry.Statement.{statement}
 use Rattle.entries.proofs.fresh.old_entry.Tie as tie
@@ -34,14 +28,12 @@ returns : tie.Need-returns
 returns c =
     let s = c .before .before .before .before .before .before .before .before .before in
     let a = s .args in
-    let G = frameOf (a .f) (a .words .now) in
-    let at : c .before .before .before .before .before .before .page-at .result + a .i ≡ indexOf G (a .new .0) (a .i)
-    = ap (λ (k : ℕ). k + a .i) (c .before .before .before .before .before .before .page-at .ensures .0) ∙ index-add _ (a .new .0) (a .i) in
-    c .before .before .put .ensures
-    ∙ ap (λ (ss : List Store). run (a .left) ss (a .words .now)) (store-at G (a .new .0) (a .i) _ _ at)
-    ∙ ap (λ (w : ℕ). run (a .left) (storeAt G (a .new .0) (a .i) w ∷ []) (a .words .now)) (c .before .before .before .before .old-word .ensures
+    let w = c .before .before .before .before .old-word in
+    stored (frameOf (a .f) (a .words .now)) (a .new .0) (a .i) _ (c .before .before .before .before .before .before .page-at .ensures .0) (a .left) (a .words .now)
+    (w .ensures
     ∙ word-outside (a .f .paw) (a .f .first .0) (length (a .words .now) / 512) (a .words .now) (requestOf (a .q)) (s .pre .2 .small) (entryOf (a .e)) (s .pre .3) (a .b) (a .i) (s .pre .1)
-    (subst (λ (k : ℕ). k < 2 ^ 64) (c .before .before .before .before .old-word .ensures) (c .before .before .before .before .old-word .ok)) (s .pre .5))
+    (subst (λ (k : ℕ). k < 2 ^ 64) (w .ensures) (w .ok)) (s .pre .5))
+    (c .before .before .put .ensures)
 
 pub old-entry-spec : {M : Type 1} → statement M
 old-entry-spec =

@@ -3,10 +3,10 @@ use mathlib.Core.List.{List}
 use Prim.Native.Nat.{ℕ, _+_, _-_, _<_}
 use native.Mathlib.Omega.{arith}
 use Rattle.entries.proofs.NewPage.{fill-run}
+use Rattle.entries.proofs.Places.{place}
 use Rattle.entries.specs.Pages.{newRun}
 use Rattle.entries.specs.Rows.{fillStores}
 use Rattle.entries.specs.Run.{run}
-use Rattle.forms.proofs.Fields.{index-add}
 use Rattle.forms.specs.Kinds.{requestOf, spreadOf}
 use Rattle.model.specs.Entry as entry
 use Rattle.model.specs.Frame.{indexOf}
@@ -61,7 +61,7 @@ returns-2 c =
     let F = frameOf (a .f) m in
     let n = a .to - a .from in
     let w = c .before .before .before .before .before .page-at in
-    let at : w .result + a .from ≡ indexOf F (a .new .0) (a .from) = ap (λ (k : ℕ). k + a .from) (w .ensures .0) ∙ index-add F (a .new .0) (a .from) in
+    let at : w .result + a .from ≡ indexOf F (a .new .0) (a .from) = place F (a .new .0) (a .from) (w .result) (w .ensures .0) in
     c .before .before .fill .ensures
     ∙ ap (λ (x : ℕ). run (a .left) (fillStores x n (w .result + a .from)) m) (c .before .before .before .spread .ensures)
     ∙ ap (λ (k : ℕ). run (a .left) (fillStores (spreadOf (a .p)) n k) m) at

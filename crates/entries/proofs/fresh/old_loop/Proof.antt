@@ -1,19 +1,9 @@
-use mathlib.Core.Path.{_≡_, refl, sym, ap, ap₂, _∙_, subst}
-use mathlib.Core.List.{List}
-use mathlib.Core.Bool.{Bool, true, false}
-use Prim.Native.Nat.{ℕ, _+_, _-_, _≤_, _<_}
+use mathlib.Core.Path.{_∙_}
+use Prim.Native.Nat.{_-_}
 use native.Mathlib.Omega.{arith}
-use borrow.Author.Needs.{needs}
-use borrow.Author.Tests.{not-true, not-false}
-use lib.ListN.{length}
-use Rattle.model.specs.Frame.{Frame, lent}
-use Rattle.entries.proofs.NewPage.{New, new-start, new-next, new-cut, new-end}
-use Rattle.entries.proofs.Places.{frame-same, good-plain}
-use Rattle.entries.proofs.Runs.{out-whole, out-cut}
+use Rattle.entries.proofs.NewPage.{New, new-start, new-next, new-cut, new-end, new-good, new-lent}
 use Rattle.forms.specs.Kinds.{requestOf}
-use Rattle.model.specs.Entry.{table}
-use Rattle.table.specs.Views.{frameOf, entryOf}
-use Rattle.theory.specs.Rooted.{Good}
+use Rattle.table.specs.Views.{entryOf}
 use Rattle.entries.proofs.fresh.old_loop.Statement.{statement}
 use Rattle.entries.proofs.fresh.old_loop.Tie as tie
 
@@ -24,20 +14,18 @@ abbrev μ-loop : tie.MeasureT-loop
 μ-loop f words₀ q e b new from to more₀ i₀ words more i = to - i
 
 loop-holds : tie.Need-loop-holds Inv-loop μ-loop
-loop-holds c = new-start _ _ _ _ _ _ _ _ _ (c .before .pre .1) (c .before .pre .2)
+loop-holds c = new-start (c .before .pre .1) (c .before .pre .2)
 
 old-entry-requires : tie.Need-old-entry-requires Inv-loop μ-loop
 old-entry-requires c κs =
     let l = c .before .before in
     let s = l .before .before in
-    let inv = l .loop .inv in
-    let same = sym (frame-same (s .args .f) (l .loop .words) (s .args .words .now) (l .loop .inv .size)) in (
+    let inv = l .loop .inv in (
       s .pre .0,
       omega (arith, s .pre .1),
       s .pre .3,
-      subst (λ (X : Frame). Good X (l .loop .words) (entryOf (s .args .e))) same
-          (good-plain (frameOf (s .args .f) (s .args .words .now)) (s .args .words .now) (l .loop .words) (entryOf (s .args .e)) (s .pre .6) (s .pre .4)),
-      subst (λ (X : Frame). lent X (s .args .new .0) ≡ true) same (s .pre .5),
+      new-good inv (s .pre .6) (s .pre .4),
+      new-lent inv (s .pre .5),
       λ k lo hi. s .pre .7 k (omega (arith, inv .past)) (omega (arith, inv .past)),
     )
 
@@ -49,8 +37,7 @@ returns c =
     let r = c .before .before .before .before .old-entry in
     let l = c .before .before .before .before .before .before .before in
     let s = l .before .before in
-    new-cut _ _ _ _ _ _ _ _ _ (s .pre .3 .small) (s .pre .6) (s .pre .5) (l .loop .words) (l .loop .more) (l .loop .i) (l .loop .inv) (c .before .before .before .before .before .before .loop-test .taken) _ (r .ensures)
-    (out-cut (r .result .all) (r .result .left) (r .last .1 .0) (not-true (r .result .all) (c .if1 .taken)))
+    new-cut (l .loop .inv) (s .pre .3 .small) (s .pre .6) (s .pre .5) (c .before .before .before .before .before .before .loop-test .taken) (r .result) (r .last .1 .0) (r .ensures) (c .if1 .taken)
 
 add-i : tie.Need-add-i Inv-loop μ-loop
 add-i c = let s = c .before .before .before .before .before .before .before .before .loop .inv in omega arith
@@ -63,14 +50,13 @@ loop-again c =
     let r = c .before .before .before .before .before .old-entry in
     let l = c .before .before .before .before .before .before .before .before in
     let s = l .before .before in
-    new-next _ _ _ _ _ _ _ _ _ (s .pre .3 .small) (s .pre .6) (s .pre .5) (l .loop .words) (l .loop .more) (l .loop .i) (l .loop .inv) (c .before .before .before .before .before .before .before .loop-test .taken) _ (r .ensures)
-    (out-whole (r .result .all) (r .result .left) (r .last .1 .0) (not-false (r .result .all) (c .before .if1 .left)))
+    new-next (l .loop .inv) (s .pre .3 .small) (s .pre .6) (s .pre .5) (c .before .before .before .before .before .before .before .loop-test .taken) (r .result) (r .last .1 .0) (r .ensures) (c .before .if1 .left)
 
 same-length-2 : tie.Need-same-length-2 Inv-loop μ-loop
 same-length-2 c = c .before .loop .inv .size
 
 returns-2 : tie.Need-returns-2 Inv-loop μ-loop
-returns-2 c = new-end _ _ _ _ _ _ _ _ _ _ _ _ (c .before .loop .inv) (c .loop-test .left)
+returns-2 c = new-end (c .before .loop .inv) (c .loop-test .left)
 
 pub old-loop-spec : {M : Type 1} → statement M
 old-loop-spec =

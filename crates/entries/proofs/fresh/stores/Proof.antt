@@ -1,10 +1,9 @@
 use mathlib.Core.Path.{sym, ap, _∙_}
 use mathlib.Core.List.{List}
 use native.Mathlib.Omega.{arith}
-use borrow.Author.Tests.{not-true, not-false}
 use Rattle.entries.proofs.NewPage.{run-same, run-parts}
 use Rattle.entries.proofs.Places.{lent-same, good-same}
-use Rattle.entries.proofs.Runs.{out-whole, out-cut, first-cut, then-rest}
+use Rattle.entries.proofs.Runs.{went-whole, went-cut, first-cut, then-rest}
 use Rattle.entries.specs.Run.{run}
 use Rattle.forms.specs.Kinds.{requestOf}
 use Rattle.model.specs.Stores.{Store}
@@ -34,7 +33,7 @@ returns c = let oe = c .before .before .before .before in
     let s = fe .before .before in
     let a = s .args in
     let r = oe .old-entries in
-    first-cut (a .left) _ (a .words .now) _ (r .ensures) (out-cut (r .result .all) (r .result .left) (r .last .1 .0) (not-true (r .result .all) (c .if1 .taken))) _
+    first-cut (a .left) _ (a .words .now) _ (r .ensures) (went-cut (r .result) (r .last .1 .0) (c .if1 .taken)) _
     ∙ ap (λ (ss : List Store). run (a .left) ss (a .words .now)) (sym (run-parts (a .f) (requestOf (a .q)) (s .pre .1 .small) (entryOf (a .e)) (s .pre .4) (a .b) (a .new .0) (a .words .now) (fe .first-entry .result) (n .near-end .result) (n .near-end .ensures .0) (n .near-end .ensures .1)))
 
 new-entries-requires : tie.Need-new-entries-requires
@@ -65,10 +64,10 @@ returns-2 c = let ne = c .before .before .before .before in
     let a = s .args in
     let r = oe .old-entries in
     let t = ne .new-entries in
-    then-rest (a .left) _ (a .words .now) (r .result .left) (r .last .1 .0) _ _ (r .ensures) (out-whole (r .result .all) (r .result .left) (r .last .1 .0) (not-false (r .result .all) (el .if1 .left))) _
+    then-rest (a .left) _ (a .words .now) (r .result .left) (r .last .1 .0) _ _ (r .ensures) (went-whole (r .result) (r .last .1 .0) (el .if1 .left)) _
     (first-cut (r .result .left) _ (r .last .1 .0) _
     (t .ensures ∙ ap (λ (ss : List Store). run (r .result .left) ss (r .last .1 .0)) (run-same (a .f) (requestOf (a .q)) (s .pre .1 .small) (entryOf (a .e)) (s .pre .4) (a .b) (a .new .0) (a .words .now) (r .last .1 .0) (r .kept .1 .0) _ _))
-    (out-cut (t .result .all) (t .result .left) (t .last .1 .0) (not-true (t .result .all) (c .if2 .taken))) _)
+    (went-cut (t .result) (t .last .1 .0) (c .if2 .taken)) _)
     ∙ ap (λ (ss : List Store). run (a .left) ss (a .words .now)) (sym (run-parts (a .f) (requestOf (a .q)) (s .pre .1 .small) (entryOf (a .e)) (s .pre .4) (a .b) (a .new .0) (a .words .now) (fe .first-entry .result) (n .near-end .result) (n .near-end .ensures .0) (n .near-end .ensures .1)))
 
 old-entries-requires-2 : tie.Need-old-entries-requires-2
@@ -105,10 +104,10 @@ returns-3 c = let u = c .before .before .old-entries2 in
     let a = s .args in
     let r = oe .old-entries in
     let t = ne .new-entries in
-    then-rest (a .left) _ (a .words .now) (r .result .left) (r .last .1 .0) _ _ (r .ensures) (out-whole (r .result .all) (r .result .left) (r .last .1 .0) (not-false (r .result .all) (el .if1 .left))) _
+    then-rest (a .left) _ (a .words .now) (r .result .left) (r .last .1 .0) _ _ (r .ensures) (went-whole (r .result) (r .last .1 .0) (el .if1 .left)) _
     (then-rest (r .result .left) _ (r .last .1 .0) (t .result .left) (t .last .1 .0) _ _
     (t .ensures ∙ ap (λ (ss : List Store). run (r .result .left) ss (r .last .1 .0)) (run-same (a .f) (requestOf (a .q)) (s .pre .1 .small) (entryOf (a .e)) (s .pre .4) (a .b) (a .new .0) (a .words .now) (r .last .1 .0) (r .kept .1 .0) _ _))
-    (out-whole (t .result .all) (t .result .left) (t .last .1 .0) (not-false (t .result .all) (el2 .if2 .left))) _
+    (went-whole (t .result) (t .last .1 .0) (el2 .if2 .left)) _
     (u .ensures ∙ ap (λ (ss : List Store). run (t .result .left) ss (t .last .1 .0)) (run-same (a .f) (requestOf (a .q)) (s .pre .1 .small) (entryOf (a .e)) (s .pre .4) (a .b) (a .new .0) (a .words .now) (t .last .1 .0) (t .kept .1 .0 ∙ r .kept .1 .0) _ _)))
     ∙ ap (λ (ss : List Store). run (a .left) ss (a .words .now)) (sym (run-parts (a .f) (requestOf (a .q)) (s .pre .1 .small) (entryOf (a .e)) (s .pre .4) (a .b) (a .new .0) (a .words .now) (fe .first-entry .result) (n .near-end .result) (n .near-end .ensures .0) (n .near-end .ensures .1)))
 

@@ -2,9 +2,8 @@ use mathlib.Core.Path.{_≡_, ap, _∙_}
 use mathlib.Core.Bool.{true}
 use mathlib.Core.List.{[], _∷_}
 use borrow.Author.Needs.{needs}
-use borrow.Author.Tests.{not-true, not-false}
 use Rattle.entries.proofs.Places.{frame-same, lent-same, good-same}
-use Rattle.entries.proofs.Runs.{out-whole, out-cut, first-cut, then-rest}
+use Rattle.entries.proofs.Runs.{went-whole, went-cut, first-cut, then-rest}
 use Rattle.entries.specs.Run.{run}
 use Rattle.forms.specs.Kinds.{requestOf}
 use Rattle.model.specs.Entry.{table, encode}
@@ -28,7 +27,7 @@ returns c =
     let a = c .before .before .before .before .before .before .before .args in
     let r = c .before .before .before .before .stores in
     first-cut (a .left) (newTable (frameOf (a .f) (a .words .now)) (a .words .now) (requestOf (a .q)) (entryOf (a .e)) (a .b) (a .new .0)) (a .words .now) _ (r .ensures)
-    (out-cut (r .result .all) (r .result .left) (r .last .1 .0) (not-true (r .result .all) (c .if1 .taken))) _
+    (went-cut (r .result) (r .last .1 .0) (c .if1 .taken)) _
 
 -- what either call asks holds still after the other
 stores-requires-2 : tie.Need-stores-requires-2
@@ -52,7 +51,7 @@ returns-2 c =
     let r = c .before .before .before .before .before .before .before .before .before .stores in
     let l = c .before .before .stores2 in
     then-rest (a .left) (newTable (frameOf (a .f) (a .words .now)) (a .words .now) (requestOf (a .q)) (entryOf (a .e)) (a .b) (a .new .0)) (a .words .now) (r .result .left) (r .last .1 .0) _ _ (r .ensures)
-    (out-whole (r .result .all) (r .result .left) (r .last .1 .0) (not-false (r .result .all) (c .before .before .before .before .before .if1 .left))) _
+    (went-whole (r .result) (r .last .1 .0) (c .before .before .before .before .before .if1 .left)) _
     (l .ensures ∙ ap (λ (X : Frame). run (r .result .left) (storeL2 X (a .root .0) (a .b) (encode rv64 (table (a .new .0))) ∷ []) (r .last .1 .0)) (frame-same (a .f) (r .last .1 .0) (a .words .now) (r .kept .1 .0)))
 
 pub link-table-spec : {M : Type 1} → statement M

@@ -1,12 +1,9 @@
-use mathlib.Core.Path.{ap, _∙_}
-use mathlib.Core.List.{List}
-use Prim.Native.Nat.{ℕ, _+_}
+use mathlib.Core.Path.{refl}
 use borrow.Author.Needs.{needs}
-use Rattle.entries.proofs.NewPage.{store-l2}
-use Rattle.entries.specs.Run.{run}
-use Rattle.forms.proofs.Fields.{index-add}
+use Rattle.entries.proofs.Places.{stored}
 use Rattle.model.specs.Entry.{encode}
-use Rattle.model.specs.Stores.{Store}
+use Rattle.model.specs.Stores.{storeL2}
+use Rattle.model.specs.Walk.{entryPage, entryPlace}
 use Rattle.table.specs.Views.{frameOf}
 use Rattle.entries.proofs.link.stores.Statement.{statement}
 use Rattle.entries.proofs.link.stores.Tie as tie
@@ -27,13 +24,10 @@ same-length : tie.Need-same-length
 same-length c = search needs
 
 returns : tie.Need-returns
-unfolding encode
+unfolding encode storeL2 entryPage entryPlace
 returns c =
     let a = c .before .before .before .before .before .before .before .before .args in
-    let p = c .before .before .before .before .before .page-at in
-    c .before .before .put .ensures
-    ∙ ap (λ (ss : List Store). run (a .left) ss (a .words .now))
-    (store-l2 (frameOf (a .f) (a .words .now)) (a .root .0) (a .b) _ _ (ap (λ (k : ℕ). k + a .b) (p .ensures .0) ∙ index-add _ (a .root .0) (a .b)))
+    stored (frameOf (a .f) (a .words .now)) (a .root .0) (a .b) _ (c .before .before .before .before .before .page-at .ensures .0) (a .left) (a .words .now) refl (c .before .before .put .ensures)
 
 pub stores-spec : {M : Type 1} → statement M
 stores-spec =

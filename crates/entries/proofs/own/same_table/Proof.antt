@@ -4,12 +4,11 @@ use mathlib.Core.Bool.{Bool, true, false}
 use Prim.Native.Nat.{ℕ, _+_, _-_, _≤_, _<_}
 use native.Mathlib.Omega.{arith}
 use borrow.Author.Needs.{needs}
-use borrow.Author.Tests.{not-true, not-false}
 use lib.ListN.{length}
 use Rattle.model.specs.Frame.{Frame}
 use Rattle.entries.proofs.OwnPage.{Same, same-start, same-next, same-cut, same-end}
 use Rattle.entries.proofs.Places.{frame-same}
-use Rattle.entries.proofs.Runs.{out-whole, out-cut}
+use Rattle.entries.proofs.Runs.{went-whole, went-cut}
 use Rattle.forms.specs.Kinds.{requestOf}
 use Rattle.model.specs.Entry.{table}
 use Rattle.table.specs.Views.{frameOf, entryOf}
@@ -54,7 +53,7 @@ returns c =
     let l = c .before .before .before .before .before .before .before in
     let s = l .before .before .before .before in
     same-cut _ _ _ _ _ _ (s .pre .1 .small) (l .loop .words) (l .loop .more) (l .loop .i) (l .loop .inv) (omega (arith, l .before .past-entry .ensures .0, c .before .before .before .before .before .before .loop-test .taken)) _ (r .ensures)
-    (out-cut (r .result .all) (r .result .left) (r .last .1 .0) (not-true (r .result .all) (c .if1 .taken)))
+    (went-cut (r .result) (r .last .1 .0) (c .if1 .taken))
 
 add-i : tie.Need-add-i Inv-loop μ-loop
 add-i c = let s = c .before .before .before .before .before .before .before .before .loop .inv in omega arith
@@ -68,7 +67,7 @@ loop-again c =
     let l = c .before .before .before .before .before .before .before .before in
     let s = l .before .before .before .before in
     same-next _ _ _ _ _ _ (s .pre .1 .small) (l .loop .words) (l .loop .more) (l .loop .i) (l .loop .inv) (omega (arith, l .before .past-entry .ensures .0, c .before .before .before .before .before .before .before .loop-test .taken)) _ (r .ensures)
-    (out-whole (r .result .all) (r .result .left) (r .last .1 .0) (not-false (r .result .all) (c .before .if1 .left)))
+    (went-whole (r .result) (r .last .1 .0) (c .before .if1 .left))
 
 same-length-2 : tie.Need-same-length-2 Inv-loop μ-loop
 same-length-2 c = c .before .loop .inv .size

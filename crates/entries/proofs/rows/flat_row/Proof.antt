@@ -1,10 +1,9 @@
 use mathlib.Core.Path.{_≡_, refl, sym, ap, _∙_}
 use Prim.Native.Nat.{ℕ, _+_, _-_, _≤_, _<_}
 use native.Mathlib.Omega.{arith}
-use borrow.Author.Tests.{not-true, not-false}
 use lib.ListN.{length}
 use Rattle.entries.proofs.RowLaws.{InRow, row-start, row-next, row-cut}
-use Rattle.entries.proofs.Runs.{out-whole, out-cut}
+use Rattle.entries.proofs.Runs.{went-whole, went-cut}
 use Rattle.entries.specs.Run.{run}
 use Rattle.entries.specs.Rows.{rowStores}
 use Rattle.entries.proofs.rows.flat_row.Statement.{statement}
@@ -33,7 +32,7 @@ returns c =
     let r = c .before .before .before .before .put-changed in
     let l = c .before .before .before .before .before .before .before in
     row-cut _ _ _ _ (l .loop .words) (l .loop .more) (l .loop .i) (l .loop .inv .1) _ refl _ (r .ensures)
-    (out-cut (r .result .all) (r .result .left) (r .last .0) (not-true (r .result .all) (c .if1 .taken))) _ (c .before .before .before .before .before .before .loop-test .taken)
+    (went-cut (r .result) (r .last .0) (c .if1 .taken)) _ (c .before .before .before .before .before .before .loop-test .taken)
 
 add-i : tie.Need-add-i Inv-loop μ-loop
 add-i c = omega (arith, c .before .before .before .before .before .before .before .loop-test .taken)
@@ -47,7 +46,7 @@ loop-again c =
     let l = c .before .before .before .before .before .before .before .before in (
       omega (arith, c .before .before .before .before .before .before .before .loop-test .taken),
       row-next _ _ _ _ (l .loop .words) (l .loop .more) (l .loop .i) (l .loop .inv .1) _ refl _ (r .ensures)
-          (out-whole (r .result .all) (r .result .left) (r .last .0) (not-false (r .result .all) (c .before .if1 .left))),
+          (went-whole (r .result) (r .last .0) (c .before .if1 .left)),
     )
 
 same-length-2 : tie.Need-same-length-2 Inv-loop μ-loop

@@ -1,10 +1,9 @@
 use mathlib.Core.Path.{_≡_, refl, sym, ap, _∙_, subst}
 use Prim.Native.Nat.{ℕ, _+_, _-_, _≤_, _<_}
 use native.Mathlib.Omega.{arith}
-use borrow.Author.Tests.{not-true, not-false}
 use lib.ListN.{length, getD}
 use Rattle.entries.proofs.RowLaws.{InRow, row-start, row-next, row-said, one-more}
-use Rattle.entries.proofs.Runs.{out-whole, out-cut}
+use Rattle.entries.proofs.Runs.{went-whole, went-cut}
 use Rattle.entries.specs.Run.{run}
 use Rattle.entries.specs.Rows.{rowStores, piecesWord}
 use Rattle.entries.proofs.rows.pieces_row.Statement.{statement}
@@ -73,7 +72,7 @@ returns-2 c =
     let w = c .before .before .before .before .before .before .before .before .pieces-word in (
       omega (arith, c .before .before .before .before .before .before .before .before .before .before .loop-test .taken),
       one-more (λ k. piecesWord (getD (l .before .before .args .words .now) k 0) ≡ 0 → ⊥) _ _ (l .loop .inv .2) (λ z. c .before .before .before .before .before .before .before .if1 .left (w .ensures ∙ ap piecesWord (l .loop .inv .1 .ahead _ (omega arith)) ∙ z)),
-      sym (out-cut (r .result .all) (r .result .left) (r .last .0) (not-true (r .result .all) (c .if2 .taken)))
+      sym (went-cut (r .result) (r .last .0) (c .if2 .taken))
           ∙ row-said _ _ _ _ (l .loop .words) (l .loop .more) (l .loop .i) (l .loop .inv .1) _ (w .ensures) _ (r .ensures),
     )
 
@@ -93,7 +92,7 @@ loop-again c =
     let w = c .before .before .before .before .before .before .before .before .pieces-word in (
       omega (arith, c .before .before .before .before .before .before .before .before .before .before .loop-test .taken),
       row-next _ _ _ _ (l .loop .words) (l .loop .more) (l .loop .i) (l .loop .inv .1) _ (w .ensures) _ (r .ensures)
-          (out-whole (r .result .all) (r .result .left) (r .last .0) (not-false (r .result .all) (c .if2 .left))),
+          (went-whole (r .result) (r .last .0) (c .if2 .left)),
       one-more (λ k. piecesWord (getD (l .before .before .args .words .now) k 0) ≡ 0 → ⊥) _ _ (l .loop .inv .2) (λ z. c .before .before .before .before .before .before .before .if1 .left (w .ensures ∙ ap piecesWord (l .loop .inv .1 .ahead _ (omega arith)) ∙ z)),
     )
 
