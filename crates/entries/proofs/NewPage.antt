@@ -1,5 +1,5 @@
 -- A block that gets a new L1 page: its entries one after another, and the link at the end.
-use mathlib.Core.Path.{_≡_, refl, sym, ap, ap₂, _∙_, subst}
+use mathlib.Core.Path.{_≡_, refl, sym, ap, ap₂, _∙_}
 use mathlib.Core.Bool.{true, false, not}
 use mathlib.Core.List.{List, [], _∷_, _++_}
 use Prim.Native.Nat.{ℕ, zero, suc, _+_, _-_, _*_, _/_, _≤_, _<_}
@@ -18,7 +18,6 @@ use Rattle.model.specs.Forms.{Request, inRange, l1Word}
 use Rattle.model.specs.Frame.{Frame, lent, indexOf}
 use Rattle.model.specs.Numbers.{joined}
 use Rattle.model.specs.Stores.{Store, storeAt, newTable}
-use Rattle.table.specs.Stored.{storeOf}
 use Rattle.table.specs.Views.{frameOf}
 use Rattle.theory.specs.Rooted.{Good}
 use Rattle.entries.proofs.Joined.{joined-append, joined-cong}

@@ -1,19 +1,17 @@
 -- Making a list of stores up to a limit.
-use mathlib.Core.Path.{_≡_, refl, sym, ap, ap₂, _∙_, subst}
+use mathlib.Core.Path.{_≡_, refl, sym, ap, _∙_}
 use mathlib.Core.Bool.{Bool, true, false, not}
 use mathlib.Core.List.{List, [], _∷_, _++_}
-use Prim.Native.Nat.{ℕ, zero, suc, _+_, _*_, _-_, _≤_, _<_}
+use Prim.Native.Nat.{ℕ, zero, suc, _+_, _-_, _<_}
 use native.Mathlib.Omega.{arith}
 use native.Mathlib.Numerals.{add-one}
-use lib.Dec.{eqb, leb}
-use lib.ListN.{length, take, set, length-set}
+use lib.ListN.{length, take, set}
 use borrow.Author.Tests.{not-true, not-false}
 use Rattle.entries.specs.Run.{Out, whole, cut, out, andThen, runFrom, run}
 use Rattle.entries.specs.declared.Budget.{Budget}
 use Rattle.entries.specs.declared.Went.{Went}
 use Rattle.model.specs.Numbers.{joined}
 use Rattle.model.specs.Stores.{Store, apply}
-use Rattle.table.specs.Stored.{storeOf}
 
 pub run-none : (left : Budget) (m : List ℕ) → run left [] m ≡ whole left m
 unfolding runFrom

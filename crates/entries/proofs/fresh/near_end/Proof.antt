@@ -2,9 +2,6 @@ use native.Mathlib.Omega.{arith}
 use borrow.Author.Needs.{needs}
 use Rattle.entries.proofs.fresh.near_end.Statement.{statement}
 use Rattle.entries.proofs.fresh.near_end.Tie as tie
-use Rattle.entries.proofs.fresh.near_end.Reads as reads
-use Rattle.entries.proofs.fresh.near_end.Lts as lts
-use Rattle.forms.proofs.range.past_entry.Reads as past-entry-reads
 
 -- src/pages.rt:214:9
 past-entry-requires : tie.Need-past-entry-requires

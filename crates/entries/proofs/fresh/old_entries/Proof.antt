@@ -2,10 +2,6 @@ use mathlib.Core.Path.{refl}
 use borrow.Author.Needs.{needs}
 use Rattle.entries.proofs.fresh.old_entries.Statement.{statement}
 use Rattle.entries.proofs.fresh.old_entries.Tie as tie
-use Rattle.entries.proofs.fresh.old_entries.Reads as reads
-use Rattle.entries.proofs.fresh.old_entries.Lts as lts
-use Rattle.entries.proofs.fresh.old_fill.Reads as old-fill-reads
-use Rattle.entries.proofs.fresh.old_loop.Reads as old-loop-reads
 
 enum-known-e : tie.Need-enum-known-e
 enum-known-e c = search needs

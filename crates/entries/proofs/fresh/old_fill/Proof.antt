@@ -11,17 +11,11 @@ use Rattle.forms.specs.Kinds.{requestOf, spreadOf}
 use Rattle.model.specs.Entry as entry
 use Rattle.model.specs.Frame.{indexOf}
 use Rattle.model.specs.Stores.{Store}
-use Rattle.table.specs.Views.{frameOf, entryOf}
+use Rattle.table.specs.Views.{frameOf}
 use Rattle.theory.specs.Rooted.{Good}
 use borrow.Author.Needs.{needs}
 use Rattle.entries.proofs.fresh.old_fill.Statement.{statement}
 use Rattle.entries.proofs.fresh.old_fill.Tie as tie
-use Rattle.entries.proofs.fresh.old_fill.Reads as reads
-use Rattle.entries.proofs.fresh.old_fill.Lts as lts
-use Rattle.entries.proofs.fresh.old_loop.Reads as old-loop-reads
-use Rattle.entries.proofs.rows.fill.Reads as fill-reads
-use Rattle.forms.proofs.words.page_at.Reads as page-at-reads
-use Rattle.forms.proofs.words.spread.Reads as spread-reads
 
 small : (s : tie.Start) → s .args .p < 4
 small s = subst (Good (frameOf (s .args .f) (s .args .words .now)) (s .args .words .now)) (s .pre .8) (s .pre .4)

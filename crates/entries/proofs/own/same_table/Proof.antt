@@ -1,17 +1,13 @@
-use mathlib.Core.Path.{_≡_, refl, sym, ap, ap₂, _∙_, subst}
-use mathlib.Core.List.{List}
-use mathlib.Core.Bool.{Bool, true, false}
-use Prim.Native.Nat.{ℕ, _+_, _-_, _≤_, _<_}
+use mathlib.Core.Path.{sym, _∙_, subst}
+use Prim.Native.Nat.{_-_}
 use native.Mathlib.Omega.{arith}
 use borrow.Author.Needs.{needs}
-use lib.ListN.{length}
 use Rattle.model.specs.Frame.{Frame}
 use Rattle.entries.proofs.OwnPage.{Same, same-start, same-next, same-cut, same-end}
 use Rattle.entries.proofs.Places.{frame-same}
 use Rattle.entries.proofs.Runs.{went-whole, went-cut}
 use Rattle.forms.specs.Kinds.{requestOf}
 use Rattle.model.specs.Entry.{table}
-use Rattle.table.specs.Views.{frameOf, entryOf}
 use Rattle.theory.specs.Rooted.{Good}
 use Rattle.entries.proofs.own.same_table.Statement.{statement}
 use Rattle.entries.proofs.own.same_table.Tie as tie

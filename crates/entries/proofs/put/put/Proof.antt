@@ -1,11 +1,8 @@
-use mathlib.Core.Path.{_≡_, sym}
+use mathlib.Core.Path.{sym}
 use borrow.Author.Needs.{needs}
 use Rattle.entries.proofs.Runs.{run-cut}
 use Rattle.entries.proofs.put.put.Statement.{statement}
 use Rattle.entries.proofs.put.put.Tie as tie
-use Rattle.entries.proofs.put.put.Reads as reads
-use Rattle.entries.proofs.put.put.Lts as lts
-use Rattle.entries.proofs.put.put_next.Reads as put-next-reads
 
 returns : tie.Need-returns
 returns c = sym (run-cut _ _ _ _ (c .if1 .taken))

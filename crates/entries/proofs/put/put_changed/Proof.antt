@@ -1,10 +1,8 @@
-use mathlib.Core.Path.{_≡_, sym, ap, _∙_}
+use mathlib.Core.Path.{_≡_, sym}
 use lib.ListN.{getD}
 use borrow.Author.Tests.{eq-eqb, ne-eqb}
 use borrow.Author.Needs.{needs}
 use Rattle.entries.proofs.Runs.{run-none}
-use Rattle.entries.specs.Run.{whole}
-use Rattle.table.specs.Stored.{storeOf}
 use Rattle.entries.proofs.put.put_changed.Statement.{statement}
 use Rattle.entries.proofs.put.put_changed.Tie as tie
 

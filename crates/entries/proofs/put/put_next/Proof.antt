@@ -1,4 +1,4 @@
-use mathlib.Core.Path.{_≡_, sym, ap, _∙_}
+use mathlib.Core.Path.{sym, ap, _∙_}
 use Prim.Native.Nat.{_-_}
 use native.Mathlib.Omega.{arith}
 use Rattle.entries.proofs.Runs.{run-one}
@@ -7,9 +7,6 @@ use Rattle.table.specs.Stored.{storeOf}
 use borrow.Author.Needs.{needs}
 use Rattle.entries.proofs.put.put_next.Statement.{statement}
 use Rattle.entries.proofs.put.put_next.Tie as tie
-use Rattle.entries.proofs.put.put_next.Reads as reads
-use Rattle.entries.proofs.put.put_next.Lts as lts
-use Rattle.table.proofs.store.store_word.Reads as store-word-reads
 
 store-word-requires : tie.Need-store-word-requires
 store-word-requires c κs = search needs

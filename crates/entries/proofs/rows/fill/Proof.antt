@@ -6,9 +6,6 @@ use Rattle.entries.specs.Run.{run}
 use Rattle.entries.specs.Rows.{fillStores}
 use Rattle.entries.proofs.rows.fill.Statement.{statement}
 use Rattle.entries.proofs.rows.fill.Tie as tie
-use Rattle.entries.proofs.rows.fill.Reads as reads
-use Rattle.entries.proofs.rows.fill.Lts as lts
-use Rattle.entries.proofs.put.put_next.Reads as put-next-reads
 
 abbrev Inv-loop : tie.InvT-loop
 Inv-loop words₀ at n word rest₀ i₀ words rest i = (i ≤ n) × Filled word words₀ rest₀ at words rest i

@@ -1,4 +1,4 @@
-use mathlib.Core.Path.{_≡_, sym, ap, _∙_}
+use mathlib.Core.Path.{_≡_, ap, _∙_}
 use Prim.Native.Nat.{ℕ}
 use native.Mathlib.Omega.{arith}
 use Rattle.entries.specs.Run.{run}
@@ -6,10 +6,6 @@ use Rattle.entries.specs.Rows.{rowStores}
 use borrow.Author.Needs.{needs}
 use Rattle.entries.proofs.rows.flat_entries.Statement.{statement}
 use Rattle.entries.proofs.rows.flat_entries.Tie as tie
-use Rattle.entries.proofs.rows.flat_entries.Reads as reads
-use Rattle.entries.proofs.rows.flat_entries.Lts as lts
-use Rattle.entries.proofs.rows.flat_gib.Reads as flat-gib-reads
-use Rattle.entries.proofs.rows.flat_row.Reads as flat-row-reads
 
 flat-row-requires : tie.Need-flat-row-requires
 flat-row-requires c κs = search needs

@@ -1,14 +1,11 @@
-use mathlib.Core.Path.{_≡_, refl, sym, ap, _∙_}
-use Prim.Native.Nat.{ℕ, _+_, _-_, _≤_, _<_}
+use mathlib.Core.Path.{_≡_, refl, ap, _∙_}
+use Prim.Native.Nat.{ℕ, _+_, _-_, _≤_}
 use native.Mathlib.Omega.{arith}
 use Rattle.entries.proofs.RowLaws.{InRow, row-start, row-next, row-left}
 use Rattle.entries.specs.Run.{run}
 use Rattle.entries.specs.Rows.{rowStores}
 use Rattle.entries.proofs.rows.flat_gib.Statement.{statement}
 use Rattle.entries.proofs.rows.flat_gib.Tie as tie
-use Rattle.entries.proofs.rows.flat_gib.Reads as reads
-use Rattle.entries.proofs.rows.flat_gib.Lts as lts
-use Rattle.entries.proofs.rows.put_free.Reads as put-free-reads
 
 abbrev Inv-loop : tie.InvT-loop
 Inv-loop words₀ at word rest₀ i₀ words rest i = (i ≤ 32) × InRow (λ w. word) words₀ rest₀ at words rest i × (32 ≤ rest .more + i)

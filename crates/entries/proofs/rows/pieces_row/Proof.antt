@@ -1,17 +1,13 @@
-use mathlib.Core.Path.{_≡_, refl, sym, ap, _∙_, subst}
+use mathlib.Core.Path.{_≡_, sym, ap, _∙_}
 use Prim.Native.Nat.{ℕ, _+_, _-_, _≤_, _<_}
 use native.Mathlib.Omega.{arith}
-use lib.ListN.{length, getD}
+use lib.ListN.{getD}
 use Rattle.entries.proofs.RowLaws.{InRow, row-start, row-next, row-said, one-more}
 use Rattle.entries.proofs.Runs.{went-whole, went-cut}
 use Rattle.entries.specs.Run.{run}
 use Rattle.entries.specs.Rows.{rowStores, piecesWord}
 use Rattle.entries.proofs.rows.pieces_row.Statement.{statement}
 use Rattle.entries.proofs.rows.pieces_row.Tie as tie
-use Rattle.entries.proofs.rows.pieces_row.Reads as reads
-use Rattle.entries.proofs.rows.pieces_row.Lts as lts
-use Rattle.entries.proofs.put.put_changed.Reads as put-changed-reads
-use Rattle.entries.proofs.rows.pieces_word.Reads as pieces-word-reads
 
 abbrev Inv-loop : tie.InvT-loop
 Inv-loop words₀ at n more₀ i₀ words more i =

@@ -1,4 +1,4 @@
-use mathlib.Core.Path.{_≡_, sym, ap, _∙_, subst}
+use mathlib.Core.Path.{sym, ap, _∙_, subst}
 use Prim.Native.Nat.{_<_, _^_}
 use native.Mathlib.Omega.{arith}
 use Rattle.entries.specs.Rows.{piecesOf}
@@ -7,9 +7,6 @@ use Rattle.table.specs.Views.{entryOf}
 use borrow.Author.Needs.{needs}
 use Rattle.entries.proofs.rows.pieces_word.Statement.{statement}
 use Rattle.entries.proofs.rows.pieces_word.Tie as tie
-use Rattle.entries.proofs.rows.pieces_word.Reads as reads
-use Rattle.entries.proofs.rows.pieces_word.Lts as lts
-use Rattle.table.proofs.word.decode.Reads as decode-reads
 
 flat-small : (c : tie.After-p) → c .p .given .0 .0 < 4
 flat-small c = subst Small (ap entryOf (c .p .given .1)) (c .before .before .decode .ensures .1)

@@ -5,9 +5,6 @@ use Rattle.entries.proofs.Runs.{run-none}
 use borrow.Author.Needs.{needs}
 use Rattle.entries.proofs.rows.put_free.Statement.{statement}
 use Rattle.entries.proofs.rows.put_free.Tie as tie
-use Rattle.entries.proofs.rows.put_free.Reads as reads
-use Rattle.entries.proofs.rows.put_free.Lts as lts
-use Rattle.entries.proofs.put.put_next.Reads as put-next-reads
 
 mul-if1 : tie.Need-mul-if1
 mul-if1 c = search needs
