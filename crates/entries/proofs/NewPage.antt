@@ -1,4 +1,4 @@
--- A block that gets a new L1 page: its entries one after another, and the link at the end.
+-- A block that gets a new L1 page: its entries one after another, and their run in three parts.
 use mathlib.Core.Path.{_≡_, refl, sym, ap, ap₂, _∙_}
 use mathlib.Core.Bool.{true, false, not}
 use mathlib.Core.List.{List, [], _∷_, _++_}
