@@ -10,11 +10,11 @@ use lib.ListN.{length, take, getD, set}
 use lib.Seq.{getD-take}
 use borrow.Author.Tests.{le-leb, lt-leb, eq-eqb, ne-eqb}
 use Rattle.model.specs.Calls.{finished, rootOf, storeList, storeListWith}
-use Rattle.edit.proofs.Runs.{run-whole, run-short}
+use Rattle.entries.proofs.Runs.{run-whole, run-short}
 use Rattle.edit.specs.Done.{fenceAfter}
 use Rattle.edit.specs.Kinds.{wholeList}
-use Rattle.edit.specs.Run.{Out, whole, cut, runFrom, run}
-use Rattle.edit.specs.declared.Budget.{Budget}
+use Rattle.entries.specs.Run.{Out, whole, cut, runFrom, run}
+use Rattle.entries.specs.declared.Budget.{Budget}
 use Rattle.laws.proofs.Choices.{split}
 use Rattle.model.specs.Fence.{noFence, domainFence, addressFence, inRoot, oneL1Store, fenceFor}
 use Rattle.model.specs.Forms.{Request, firstGib, forms}

@@ -2,13 +2,15 @@
 -- of its blocks.
 use mathlib.Core.Path.{_≡_, refl, sym, ap, ap₂, _∙_, subst}
 use mathlib.Core.Bool.{true, false}
-use mathlib.Core.List.{List, _++_, append-nil, headD}
+use mathlib.Core.List.{List, [], _∷_, _++_, append-nil, headD}
 use Prim.Native.Nat.{ℕ, zero, suc, _+_, _*_, _≤_, _<_}
 use native.Mathlib.Nat.{zero-add}
 use native.Mathlib.Omega.{arith}
+use lib.Dec.{eqb}
 use lib.ListN.{getD}
 use Rattle.edit.specs.Kinds.{storesAt}
-use Rattle.edit.specs.Rows.{changeAt, rowStores, piecesOf, piecesWord, storesOver, pagesOver}
+use Rattle.edit.specs.Over.{storesOver, pagesOver}
+use Rattle.entries.specs.Rows.{changeAt, rowStores, piecesOf, piecesWord}
 use Rattle.forms.specs.declared.Gib.{Gib}
 use Rattle.forms.specs.Kinds.{formAt}
 use Rattle.laws.proofs.Choices.{split}
@@ -17,14 +19,20 @@ use Rattle.model.specs.Forms.{Request, Form, wantPieces, formIn, formsIn, inRan
 use Rattle.model.specs.Frame.{Frame, lent, indexOf, wordAt}
 use Rattle.model.specs.Layout.{rv64}
 use Rattle.model.specs.Numbers.{if_then_else_, joined}
-use Rattle.model.specs.Stores.{Store, ifChangedL2, blockStores, needsPage, newPages, storesFrom}
+use Rattle.model.specs.Stores.{Store, storeAt, storeL2, ifChangedL2, blockStores, needsPage, newPages, storesFrom}
 use Rattle.model.specs.Walk.{entryAt, entryPage, entryPlace, l2Word}
+use Rattle.table.specs.Stored.{storeOf}
 use Rattle.table.specs.Views.{frameOf}
 use Rattle.theory.proofs.Entries.{Small, decode-small, rv64-lawful}
 use Rattle.theory.specs.Rooted.{Good}
 use Rattle.edit.proofs.PiecesBlock.{info-stores, flat-form, pieces-form}
-use Rattle.edit.proofs.Places.{changed-l2, index-next}
+use Rattle.entries.proofs.Places.{index-next}
 use Rattle.table.specs.declared.Frame as code
+
+-- an L2 entry of the root
+pub changed-l2 : (F : Frame) (m : List ℕ) (root b w at : ℕ) → at ≡ indexOf F root b → (if eqb (getD m at 0) w then [] else storeOf at w ∷ []) ≡ ifChangedL2 F m root b w
+unfolding ifChangedL2 l2Word wordAt storeL2 storeAt entryPage entryPlace
+changed-l2 F m root b w at e = ap (λ (k : ℕ). if eqb (getD m k 0) w then [] else storeOf k w ∷ []) e
 
 module _ (F : Frame) (m : List ℕ) (q : Request) (root : ℕ) (gib : Gib) where
   -- ---- one block

@@ -6,7 +6,8 @@ use Prim.Native.Nat.{ℕ, _+_, _*_, _^_, _≤_, _<_, min}
 use native.Mathlib.Omega.{arith}
 use lib.Dec.{eqb}
 use lib.ListN.{length, take, drop, length-take, take-append-drop}
-use Rattle.edit.specs.Kinds.{Plain, Encodes, Accepted, wholeList}
+use Rattle.edit.specs.Kinds.{Encodes, Accepted, wholeList}
+use Rattle.entries.specs.Pages.{Plain}
 use Rattle.forms.proofs.EntryLaws.{after-small}
 use Rattle.laws.proofs.Choices.{split, and-true}
 use Rattle.laws.proofs.Digits.{pack-lt}
@@ -35,8 +36,8 @@ use Rattle.theory.proofs.Steps.{root-lent as page-lent}
 use Rattle.theory.proofs.Tables.{Sound}
 use Rattle.theory.proofs.Used.{pagesOf, links, used-measure}
 use Rattle.theory.proofs.WholeCall.{Edit, ok-of, sound-of, here-of}
-use Rattle.edit.proofs.Joined.{joined-cong}
-use Rattle.edit.proofs.Places.{changed-same, l1-plain}
+use Rattle.entries.proofs.Joined.{joined-cong}
+use Rattle.entries.proofs.Places.{changed-same, l1-plain}
 use Rattle.table.specs.declared.Frame as code
 
 -- a form's entry fits a word

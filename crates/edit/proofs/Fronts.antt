@@ -1,8 +1,9 @@
--- The two lowest free pages: which of them a place in the list is.
-use mathlib.Core.Path.{_≡_, refl, ap, _∙_}
-use mathlib.Core.List.{List, [], _∷_, headD}
-use Prim.Native.Nat.{ℕ, zero, suc, _≤_, _<_}
+-- The list of free pages: which of the two lowest stands at a place of it, and what is left from a place on.
+use mathlib.Core.Path.{_≡_, refl, sym, ap, _∙_}
+use mathlib.Core.List.{List, [], _∷_, headD, tail}
+use Prim.Native.Nat.{ℕ, zero, suc, _+_, _≤_, _<_}
 use native.Mathlib.Omega.{arith}
+use native.Mathlib.Numerals.{add-one}
 use lib.ListN.{length, take, drop, length-take, drop-of-length-le}
 
 module _ (x y : ℕ) where
@@ -29,3 +30,14 @@ module _ (x y : ℕ) where
   page-second zero h = absurd (omega arith)
   page-second (suc zero) h = absurd (omega arith)
   page-second (suc (suc c)) h = refl
+
+-- ---- from one on
+
+tail-drop : (l : List ℕ) (i : ℕ) → tail (drop i l) ≡ drop (suc i) l
+tail-drop [] zero = refl
+tail-drop [] (suc i) = refl
+tail-drop (x ∷ xs) zero = refl
+tail-drop (x ∷ xs) (suc i) = tail-drop xs i
+
+pub drop-tail : (l : List ℕ) (i : ℕ) → tail (drop i l) ≡ drop (i + 1) l
+drop-tail l i = tail-drop l i ∙ ap (λ (k : ℕ). drop k l) (sym (add-one i))

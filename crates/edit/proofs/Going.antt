@@ -7,10 +7,10 @@ use mathlib.Core.List.{List, [], _∷_, _++_, append-assoc, headD, tail}
 use Prim.Native.Nat.{ℕ, suc, _+_, _*_, _/_, _≤_, _<_}
 use native.Mathlib.Omega.{arith}
 use lib.ListN.{length, drop, length-append, length-drop}
-use Rattle.edit.proofs.Runs.{run-none, run-on, run-off, run-whole}
+use Rattle.entries.proofs.Runs.{run-none, run-on, run-off, run-whole}
 use Rattle.edit.specs.Kinds.{storesAt, Fresh, wholeList}
-use Rattle.edit.specs.Run.{Out, whole, cut, run}
-use Rattle.edit.specs.declared.Budget.{Budget}
+use Rattle.entries.specs.Run.{Out, whole, cut, run}
+use Rattle.entries.specs.declared.Budget.{Budget}
 use Rattle.forms.specs.declared.Gib.{Gib}
 use Rattle.forms.specs.Kinds.{formAt, GibIs}
 use Rattle.laws.proofs.Choices.{split}
@@ -32,8 +32,8 @@ use Rattle.theory.proofs.Forms.{forms-fit, forms-all, forms-length, same-form, 
 use Rattle.theory.proofs.Frames.{lent-ppn}
 use Rattle.theory.proofs.OneCall.{At, spot, next as at-next, at-start}
 use Rattle.theory.proofs.Plans.{AllAt, FitsAll, Call}
-use Rattle.edit.proofs.Joined.{drop-tail}
-use Rattle.edit.proofs.Places.{frame-same}
+use Rattle.edit.proofs.Fronts.{drop-tail}
+use Rattle.entries.proofs.Places.{frame-same}
 use Rattle.edit.proofs.Facts.{Facts, stores-same}
 use Rattle.table.specs.declared.Frame as code
 use Rattle.forms.specs.declared.Gib as gibs′

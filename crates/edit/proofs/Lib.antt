@@ -1,10 +1,4 @@
---   Fronts        the two lowest free pages: which of them a place in the list is
---   Runs          making a list of stores up to a limit
---   Joined        lists of stores, place by place
---   RowLaws       a row of entries, word by word
---   Places        one word of a page: the store into it
---   OwnPage       a block with an L1 page of its own
---   NewPage       a block that gets a new L1 page
+--   Fronts        the list of free pages: what stands at a place of it, and from there on
 --   PiecesBlock   a block whose finished form is TYPE 6
 --   BlockRows     several blocks of one GiB at once
 --   Answers       from the stores that were made to the answer
@@ -13,12 +7,6 @@
 --   Over          several blocks of an edit at once
 --   Turns         the loop over the blocks
 pub mod Fronts
-pub mod Runs
-pub mod Joined
-pub mod RowLaws
-pub mod Places
-pub mod OwnPage
-pub mod NewPage
 pub mod PiecesBlock
 pub mod BlockRows
 pub mod Answers

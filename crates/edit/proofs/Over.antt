@@ -8,11 +8,11 @@ use native.Mathlib.Nat.{add-zero}
 use native.Mathlib.Omega.{arith}
 use native.Mathlib.Numerals.{add-one}
 use lib.ListN.{drop}
-use Rattle.edit.proofs.Runs.{run-none, run-on, run-off}
+use Rattle.entries.proofs.Runs.{run-none, run-on, run-off}
 use Rattle.edit.specs.Kinds.{storesAt, wholeList}
-use Rattle.edit.specs.Rows.{storesOver, pagesOver}
-use Rattle.edit.specs.Run.{Out, whole, cut, run}
-use Rattle.edit.specs.declared.Budget.{Budget}
+use Rattle.edit.specs.Over.{storesOver, pagesOver}
+use Rattle.entries.specs.Run.{Out, whole, cut, run}
+use Rattle.entries.specs.declared.Budget.{Budget}
 use Rattle.forms.specs.declared.Gib.{Gib}
 use Rattle.forms.specs.Kinds.{formAt, GibIs}
 use Rattle.laws.proofs.Choices.{split}
@@ -25,8 +25,8 @@ use Rattle.model.specs.Walk.{entryAt}
 use Rattle.table.specs.Views.{frameOf}
 use Rattle.theory.proofs.Forms.{same-form}
 use Rattle.theory.proofs.Walks.{entry-word}
-use Rattle.edit.proofs.Joined.{drop-tail}
-use Rattle.edit.proofs.Places.{frame-same}
+use Rattle.edit.proofs.Fronts.{drop-tail}
+use Rattle.entries.proofs.Places.{frame-same}
 use Rattle.edit.proofs.Facts.{Facts, stores-same}
 use Rattle.edit.proofs.Going.{Going, after-same, going-cut, going-next, size}
 use Rattle.table.specs.declared.Frame as code

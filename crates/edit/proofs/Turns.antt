@@ -5,9 +5,9 @@ use Prim.Native.Nat.{ℕ, _+_, _*_, _-_, _/_, _%_, _^_, _≤_, _<_}
 use native.Mathlib.Omega.{arith}
 use lib.ListN.{drop}
 use Rattle.edit.specs.Kinds.{Fresh, wholeList}
-use Rattle.edit.specs.Rows.{storesOver, pagesOver}
-use Rattle.edit.specs.Run.{Out, whole, cut, run}
-use Rattle.edit.specs.declared.Budget.{Budget}
+use Rattle.edit.specs.Over.{storesOver, pagesOver}
+use Rattle.entries.specs.Run.{Out, whole, cut, run}
+use Rattle.entries.specs.declared.Budget.{Budget}
 use Rattle.forms.specs.declared.Gib.{Gib}
 use Rattle.forms.specs.Kinds.{GibIs}
 use Rattle.model.specs.Forms.{Request, firstGib, gibs}
@@ -15,7 +15,7 @@ use Rattle.model.specs.Frame.{Frame, blocks}
 use Rattle.model.specs.Stores.{Store}
 use Rattle.table.specs.Views.{frameOf}
 use Rattle.theory.specs.Rooted.{Rooted}
-use Rattle.edit.proofs.Places.{frame-same}
+use Rattle.entries.proofs.Places.{frame-same}
 use Rattle.edit.proofs.Facts.{Facts}
 use Rattle.edit.proofs.Going.{Going, fresh, gib-back, gib-same, going-end, going-start, rooted, size}
 use Rattle.edit.proofs.Over.{Ends, going-over, over-same, pages-same}

@@ -1,12 +1,10 @@
--- What the contracts ask of a block, a new page and an accepted edit.
+-- What the contracts ask of a block and of an accepted edit.
 use mathlib.Core.Path.{_≡_}
 use mathlib.Core.Bool.{Bool, true, false}
 use mathlib.Core.List.{List, [], _∷_, headD, tail}
 use Prim.Native.Nat.{ℕ, _*_, _<_, _^_}
 use lib.ListN.{length, take}
 use Rattle.model.specs.Layout.{gibBlocks}
-use Rattle.model.specs.Numbers.{joined}
-use Rattle.model.specs.Entry as entry
 use Rattle.model.specs.Frame as frame
 use Rattle.model.specs.Walk as walk
 use Rattle.model.specs.Sound as tables
@@ -20,13 +18,6 @@ use Rattle.sound.specs.declared.Free.{Free}
 -- the free pages that an edit may take, lowest first: two at the most
 abbrev pub freeList : Free → List ℕ
 freeList free = take (free .count) (free .first .0 ∷ free .second .0 ∷ [])
-
--- an entry that names no page
-abbrev pub Plain : entry.Entry → Type 0
-Plain (entry.flat p) = Unit {0}
-Plain (entry.pieces i) = Unit {0}
-Plain (entry.table t) = ⊥
-Plain entry.invalid = Unit {0}
 
 -- a form whose entry fits a word
 abbrev pub Encodes : model.Form → Type 0
@@ -54,7 +45,3 @@ pub record Accepted (F : frame.Frame) (m : List ℕ) (q : model.Request) (root :
 -- the ordered list of its stores
 abbrev pub wholeList : frame.Frame → List ℕ → model.Request → ℕ → List ℕ → List stores.Store
 wholeList F m q root free = stores.storesFrom F m q root (model.firstGib q * gibBlocks) (model.forms F m q root) free
-
--- the stores of n entries of block b's new page, from entry i on
-abbrev pub newRun : frame.Frame → List ℕ → model.Request → entry.Entry → ℕ → ℕ → ℕ → ℕ → List stores.Store
-newRun F m q e b new n i = joined (λ k. stores.storeAt F new k (model.l1Word F m q e b k) ∷ []) n i

@@ -1,10 +1,9 @@
 // The edit: the stores of an accepted edit in order, up to a limit, and its answer.
 pub mod block;
-pub mod pages;
-pub mod put;
-pub mod rows;
 
 use crate::block::next_blocks;
+use entries::Budget;
+use entries::Went;
 use forms::Gib;
 use forms::Request;
 use forms::gibs::gib_at;
@@ -19,30 +18,11 @@ ghost use mathlib.Core.Path.{_≡_};
 ghost use mathlib.Core.Bool.{true};
 ghost use Rattle.edit.specs.Done.{fenceAfter, IsMade};
 ghost use Rattle.edit.specs.Kinds.{Accepted, wholeList, freeList};
-ghost use Rattle.edit.specs.Run.{out, run};
+ghost use Rattle.entries.specs.Run.{out, run};
 ghost use Rattle.forms.specs.Kinds.{requestOf};
 ghost use Rattle.model.specs.Fence.{inRoot};
 ghost use Rattle.model.specs.Frame.{lent, boundsOk};
 ghost use Rattle.table.specs.Views.{frameOf, fenceOf};
-
-// How many more stores may be made, and which word the last one went to.
-pub struct Budget {
-    pub more: u64,
-    pub last: usize,
-}
-
-// How the stores went: all were made, and what is left; or the limit cut them.
-pub struct Went {
-    pub left: Budget,
-    pub all: bool,
-}
-
-// How a row of entries went, and how many of them it was.
-pub struct Row {
-    pub left: Budget,
-    pub count: usize,
-    pub all: bool,
-}
 
 // How some blocks went, the next new page, and how many blocks it was.
 pub struct Step {

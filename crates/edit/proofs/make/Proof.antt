@@ -7,12 +7,12 @@ use lib.ListN.{length}
 use Rattle.model.specs.Frame.{Frame, lent, boundsOk}
 use borrow.Author.Needs.{needs}
 use Rattle.edit.proofs.Answers.{all-fits, all-memory, all-count, all-true, all-fence, cut-memory, cut-count, cut-false, cut-fence}
-use Rattle.edit.proofs.Places.{frame-same}
+use Rattle.entries.proofs.Places.{frame-same}
 use Rattle.edit.proofs.Facts.{root-lent, bounds-in}
-use Rattle.edit.proofs.Runs.{out-whole, out-cut}
+use Rattle.entries.proofs.Runs.{out-whole, out-cut}
 use Rattle.edit.specs.Done.{fenceAfter}
 use Rattle.edit.specs.Kinds.{wholeList, Accepted, freeList}
-use Rattle.edit.specs.Run.{whole, cut, out, run}
+use Rattle.entries.specs.Run.{whole, cut, out, run}
 use Rattle.forms.specs.Kinds.{requestOf}
 use Rattle.model.specs.Stores.{Store}
 use Rattle.table.specs.Views.{frameOf, fenceOf}

@@ -10,7 +10,7 @@ use lib.ListN.{length}
 use Rattle.edit.proofs.Facts.{Facts, facts}
 use Rattle.edit.proofs.Turns.{Turn, turn-start, turn-rooted, turn-room, turn-flag, turn-fresh, turn-cut, turn-next, turn-end}
 use Rattle.edit.proofs.Going.{size}
-use Rattle.edit.proofs.Runs.{out-whole, out-cut}
+use Rattle.entries.proofs.Runs.{out-whole, out-cut}
 use Rattle.forms.specs.declared.Gib.{Gib}
 use Rattle.edit.specs.Kinds.{freeList}
 use Rattle.forms.specs.Kinds.{requestOf, Fair}

@@ -5,9 +5,9 @@ use native.Mathlib.Omega.{arith}
 use lib.ListN.{drop}
 use Rattle.edit.proofs.BlockRows.{Entrywise, row-stores, row-pages, flat-entry}
 use Rattle.edit.specs.Kinds.{freeList}
-use Rattle.edit.specs.Rows.{rowStores}
-use Rattle.edit.specs.Run.{run}
-use Rattle.forms.proofs.Fields.{index-add}
+use Rattle.entries.specs.Rows.{rowStores}
+use Rattle.entries.specs.Run.{run}
+use Rattle.entries.proofs.Places.{place}
 use Rattle.forms.specs.Kinds.{requestOf}
 use Rattle.model.specs.Frame.{indexOf}
 use Rattle.model.specs.Stores.{Store}
@@ -17,7 +17,7 @@ use Rattle.edit.proofs.block.flat_blocks.Statement.{statement}
 use Rattle.edit.proofs.block.flat_blocks.Tie as tie
 use Rattle.edit.proofs.block.flat_blocks.Reads as reads
 use Rattle.edit.proofs.block.flat_blocks.Lts as lts
-use Rattle.edit.proofs.rows.flat_entries.Reads as flat-entries-reads
+use Rattle.entries.proofs.rows.flat_entries.Reads as flat-entries-reads
 use Rattle.forms.proofs.words.page_at.Reads as page-at-reads
 
 -- src/block.rt:194:13
@@ -52,7 +52,7 @@ returns c =
     let m = a .words .now in
     let F = frameOf (a .f) m in
     let n = 32 - a .b % 32 in
-    let at : c .before .before .before .before .before .before .page-at .result + a .b ≡ indexOf F (a .root .0) (a .b) = ap (λ (k : ℕ). k + a .b) (c .before .before .before .before .before .before .page-at .ensures .0) ∙ index-add F (a .root .0) (a .b) in
+    let at : c .before .before .before .before .before .before .page-at .result + a .b ≡ indexOf F (a .root .0) (a .b) = place F (a .root .0) (a .b) _ (c .before .before .before .before .before .before .page-at .ensures .0) in
     let flat : (x : ℕ) → a .b ≤ x → x < a .b + n → Entrywise F m (requestOf (a .q)) (a .root .0) (a .gib) (λ w. a .gib .p * 0x1000_0000_0000) x
     = λ x lo hi. flat-entry (a .f) m (requestOf (a .q)) (a .root .0) (a .gib) (s .pre .3) x in
     record {

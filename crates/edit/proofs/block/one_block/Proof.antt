@@ -11,7 +11,7 @@ use borrow.Author.Needs.{needs}
 use Rattle.edit.proofs.Facts.{form-encodes}
 use Rattle.edit.proofs.BlockRows.{over-one, pages-one}
 use Rattle.edit.specs.Kinds.{Encodes, storesAt, freeList}
-use Rattle.edit.specs.Run.{run}
+use Rattle.entries.specs.Run.{run}
 use Rattle.forms.specs.Kinds.{requestOf, formOf, formAt}
 use Rattle.model.specs.Entry.{Entry}
 use Rattle.model.specs.Numbers.{if_then_else_}

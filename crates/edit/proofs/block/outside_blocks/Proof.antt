@@ -4,11 +4,12 @@ use Prim.Native.Nat.{ℕ, _+_, _^_, _≤_, _<_}
 use native.Mathlib.Omega.{arith}
 use lib.ListN.{drop, getD}
 use Rattle.edit.proofs.BlockRows.{Entrywise, row-stores, row-pages, pieces-entry}
-use Rattle.edit.proofs.RowLaws.{row-none}
+use Rattle.entries.proofs.RowLaws.{row-none}
 use Rattle.edit.specs.Kinds.{freeList, Fresh}
-use Rattle.edit.specs.Rows.{rowStores, piecesWord, Did}
-use Rattle.edit.specs.Run.{run}
-use Rattle.forms.proofs.Fields.{index-add}
+use Rattle.edit.specs.Over.{Did}
+use Rattle.entries.specs.Rows.{rowStores, piecesWord}
+use Rattle.entries.specs.Run.{run}
+use Rattle.entries.proofs.Places.{place}
 use Rattle.forms.specs.Kinds.{requestOf, Fair}
 use Rattle.model.specs.Frame.{blocks, indexOf}
 use Rattle.model.specs.Stores.{Store}
@@ -20,7 +21,7 @@ use Rattle.edit.proofs.block.outside_blocks.Tie as tie
 use Rattle.edit.proofs.block.outside_blocks.Reads as reads
 use Rattle.edit.proofs.block.outside_blocks.Lts as lts
 use Rattle.edit.proofs.block.one_block.Reads as one-block-reads
-use Rattle.edit.proofs.rows.pieces_row.Reads as pieces-row-reads
+use Rattle.entries.proofs.rows.pieces_row.Reads as pieces-row-reads
 use Rattle.forms.proofs.words.page_at.Reads as page-at-reads
 
 -- a first entry with an L1 page: nothing is stored yet
@@ -78,10 +79,10 @@ returns-2 c =
     let F = frameOf (a .f) m in
     let r = c .before .before .before .before .before .pieces-row in
     let n = r .result .count in
-    let at : c .before .before .before .before .before .before .before .page-at .result + a .b ≡ indexOf F (a .root .0) (a .b) = ap (λ (k : ℕ). k + a .b) (c .before .before .before .before .before .before .before .page-at .ensures .0) ∙ index-add F (a .root .0) (a .b) in
+    let at : c .before .before .before .before .before .before .before .page-at .result + a .b ≡ indexOf F (a .root .0) (a .b) = place F (a .root .0) (a .b) _ (c .before .before .before .before .before .before .before .page-at .ensures .0) in
     let row : (x : ℕ) → a .b ≤ x → x < a .b + n → Entrywise F m (requestOf (a .q)) (a .root .0) (a .gib) piecesWord x
     = λ x lo hi.
-    let k : c .before .before .before .before .before .before .before .page-at .result + x ≡ indexOf F (a .root .0) x = ap (λ (y : ℕ). y + x) (c .before .before .before .before .before .before .before .page-at .ensures .0) ∙ index-add F (a .root .0) x in
+    let k : c .before .before .before .before .before .before .before .page-at .result + x ≡ indexOf F (a .root .0) x = place F (a .root .0) x _ (c .before .before .before .before .before .before .before .page-at .ensures .0) in
     pieces-entry (a .f) m (requestOf (a .q)) (a .root .0) (a .gib) (s .pre .2 .small) (s .pre .6) (s .pre .0 .isLent) x (s .pre .0 .good x (omega (arith, s .pre .1, r .ensures .0)))
     (λ y l u. s .pre .9 y (omega arith) (omega (arith, r .ensures .0)))
     (subst (λ (y : ℕ). piecesWord (getD m y 0) ≡ 0 → ⊥) k (r .ensures .1 _ (omega arith) (omega arith))) in

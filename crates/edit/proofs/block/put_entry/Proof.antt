@@ -2,9 +2,9 @@ use mathlib.Core.Path.{_≡_, refl, sym, ap, ap₂, _∙_, subst}
 use mathlib.Core.List.{List, [], _∷_}
 use Prim.Native.Nat.{ℕ, _+_}
 use borrow.Author.Needs.{needs}
-use Rattle.edit.proofs.Places.{changed-l2}
-use Rattle.edit.specs.Run.{run}
-use Rattle.forms.proofs.Fields.{index-add}
+use Rattle.edit.proofs.BlockRows.{changed-l2}
+use Rattle.entries.specs.Run.{run}
+use Rattle.entries.proofs.Places.{place}
 use Rattle.forms.specs.Kinds.{requestOf}
 use Rattle.model.specs.Frame.{indexOf}
 use Rattle.model.specs.Stores.{Store}
@@ -28,7 +28,7 @@ returns : tie.Need-returns
 returns c =
     let a = c .before .before .before .before .before .before .before .args in
     let at : c .before .before .before .before .page-at .result + a .b ≡ indexOf (frameOf (a .f) (a .words .now)) (a .root .0) (a .b)
-    = ap (λ (k : ℕ). k + a .b) (c .before .before .before .before .page-at .ensures .0) ∙ index-add _ (a .root .0) (a .b) in
+    = place _ (a .root .0) (a .b) _ (c .before .before .before .before .page-at .ensures .0) in
     c .before .before .put-changed .ensures
     ∙ ap (λ (ss : List Store). run (a .left) ss (a .words .now)) (changed-l2 (frameOf (a .f) (a .words .now)) (a .words .now) (a .root .0) (a .b) (a .word) _ at)
 

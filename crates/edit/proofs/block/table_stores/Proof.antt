@@ -1,7 +1,7 @@
 use mathlib.Core.Path.{_≡_, refl, sym, ap, _∙_, subst}
 use mathlib.Core.Bool.{Bool, true}
 use borrow.Author.Needs.{needs}
-use Rattle.edit.specs.Kinds.{Plain}
+use Rattle.entries.specs.Pages.{Plain}
 use Rattle.model.specs.Forms.{wantTable}
 use Rattle.model.specs.Stores.{needsPage, blockStores}
 use Rattle.table.specs.Views.{entryOf}

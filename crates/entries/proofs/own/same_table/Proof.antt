@@ -1,0 +1,93 @@
+use mathlib.Core.Path.{sym, _∙_, subst}
+use Prim.Native.Nat.{_-_}
+use native.Mathlib.Omega.{arith}
+use borrow.Author.Needs.{needs}
+use Rattle.model.specs.Frame.{Frame}
+use Rattle.entries.proofs.OwnPage.{Same, same-start, same-next, same-cut, same-end}
+use Rattle.entries.proofs.Places.{frame-same}
+use Rattle.entries.proofs.Runs.{went-whole, went-cut}
+use Rattle.forms.specs.Kinds.{requestOf}
+use Rattle.model.specs.Entry.{table}
+use Rattle.theory.specs.Rooted.{Good}
+use Rattle.entries.proofs.own.same_table.Statement.{statement}
+use Rattle.entries.proofs.own.same_table.Tie as tie
+
+abbrev Inv-loop : tie.InvT-loop
+Inv-loop f words₀ q t b from to more₀ i₀ words more i = Same f (requestOf q) (t .0) b words₀ more₀ words more i
+
+abbrev μ-loop : tie.MeasureT-loop
+μ-loop f words₀ q t b from to more₀ i₀ words more i = to - i
+
+first-entry-requires : tie.Need-first-entry-requires Inv-loop μ-loop
+first-entry-requires c κs = search needs
+
+past-entry-requires : tie.Need-past-entry-requires Inv-loop μ-loop
+past-entry-requires c κs = search needs
+
+loop-holds : tie.Need-loop-holds Inv-loop μ-loop
+loop-holds c =
+    let s = c .before .before .before in
+    let r = c .before .first-entry in
+    same-start _ _ _ _ _ _ (s .pre .1 .small) (s .pre .2) (λ j. omega (arith, c .before .before .slice-known .given j)) _ (r .ensures .0) (r .ensures .1)
+
+same-entry-requires : tie.Need-same-entry-requires Inv-loop μ-loop
+same-entry-requires c κs =
+    let l = c .before .before in
+    let s = l .before .before .before .before in (
+      s .pre .0,
+      omega (arith, l .before .past-entry .ensures .0),
+      s .pre .1,
+      subst (λ (X : Frame). Good X (l .loop .words) (table (s .args .t .0))) (sym (frame-same (s .args .f) (l .loop .words) (s .args .words .now) (l .loop .inv .size))) (l .loop .inv .good),
+    )
+
+same-length : tie.Need-same-length Inv-loop μ-loop
+same-length c = c .before .before .before .before .same-entry .kept .1 .0 ∙ c .before .before .before .before .before .before .before .loop .inv .size
+
+returns : tie.Need-returns Inv-loop μ-loop
+returns c =
+    let r = c .before .before .before .before .same-entry in
+    let l = c .before .before .before .before .before .before .before in
+    let s = l .before .before .before .before in
+    same-cut _ _ _ _ _ _ (s .pre .1 .small) (l .loop .words) (l .loop .more) (l .loop .i) (l .loop .inv) (omega (arith, l .before .past-entry .ensures .0, c .before .before .before .before .before .before .loop-test .taken)) _ (r .ensures)
+    (went-cut (r .result) (r .last .1 .0) (c .if1 .taken))
+
+add-i : tie.Need-add-i Inv-loop μ-loop
+add-i c = let s = c .before .before .before .before .before .before .before .before .loop .inv in omega arith
+
+loop-less : tie.Need-loop-less Inv-loop μ-loop
+loop-less c = let s = c .before .before .before .before .before .before .before .before .loop .inv in omega arith
+
+loop-again : tie.Need-loop-again Inv-loop μ-loop
+loop-again c =
+    let r = c .before .before .before .before .before .same-entry in
+    let l = c .before .before .before .before .before .before .before .before in
+    let s = l .before .before .before .before in
+    same-next _ _ _ _ _ _ (s .pre .1 .small) (l .loop .words) (l .loop .more) (l .loop .i) (l .loop .inv) (omega (arith, l .before .past-entry .ensures .0, c .before .before .before .before .before .before .before .loop-test .taken)) _ (r .ensures)
+    (went-whole (r .result) (r .last .1 .0) (c .before .if1 .left))
+
+same-length-2 : tie.Need-same-length-2 Inv-loop μ-loop
+same-length-2 c = c .before .loop .inv .size
+
+returns-2 : tie.Need-returns-2 Inv-loop μ-loop
+returns-2 c =
+    let l = c .before in
+    let s = l .before .before .before .before in
+    same-end _ _ _ _ _ _ (s .pre .1 .small) (s .pre .2) (λ j. omega (arith, l .before .before .before .slice-known .given j)) _ (l .before .past-entry .ensures .1) _ _ _ (l .loop .inv) (c .loop-test .left)
+
+pub same-table-spec : {M : Type 1} → statement M
+same-table-spec =
+    tie.close
+    (tie.spec
+    Inv-loop
+    μ-loop
+    first-entry-requires
+    past-entry-requires
+    loop-holds
+    same-entry-requires
+    same-length
+    returns
+    add-i
+    loop-less
+    loop-again
+    same-length-2
+    returns-2)

@@ -1,0 +1,26 @@
+use mathlib.Core.Path.{sym, ap, _∙_}
+use Prim.Native.Nat.{_-_}
+use native.Mathlib.Omega.{arith}
+use Rattle.entries.proofs.Runs.{run-one}
+use Rattle.entries.specs.Run.{whole}
+use Rattle.table.specs.Stored.{storeOf}
+use borrow.Author.Needs.{needs}
+use Rattle.entries.proofs.put.put_next.Statement.{statement}
+use Rattle.entries.proofs.put.put_next.Tie as tie
+
+store-word-requires : tie.Need-store-word-requires
+store-word-requires c κs = search needs
+
+sub-t9 : tie.Need-sub-t9
+sub-t9 c = search needs
+
+same-length : tie.Need-same-length
+same-length c = search needs
+
+returns : tie.Need-returns
+returns c =
+    let a = c .before .before .before .before .before .args in
+    ap (whole (record { more = a .left .more - 1; last = a .at })) (c .before .before .store-word .ensures .sets) ∙ sym (run-one (a .left) (storeOf (a .at) (a .word)) (a .words .now) (omega arith))
+
+pub put-next-spec : {M : Type 1} → statement M
+put-next-spec = tie.close (tie.spec store-word-requires sub-t9 same-length returns)

@@ -1,0 +1,60 @@
+use mathlib.Core.Path.{_≡_, ap, _∙_}
+use Prim.Native.Nat.{ℕ, _-_, _≤_}
+use native.Mathlib.Omega.{arith}
+use Rattle.entries.proofs.RowLaws.{Filled, fill-start, fill-next}
+use Rattle.entries.specs.Run.{run}
+use Rattle.entries.specs.Rows.{fillStores}
+use Rattle.entries.proofs.rows.fill.Statement.{statement}
+use Rattle.entries.proofs.rows.fill.Tie as tie
+
+abbrev Inv-loop : tie.InvT-loop
+Inv-loop words₀ at n word rest₀ i₀ words rest i = (i ≤ n) × Filled word words₀ rest₀ at words rest i
+
+abbrev μ-loop : tie.MeasureT-loop
+μ-loop words₀ at n word rest₀ i₀ words rest i = n - i
+
+loop-holds : tie.Need-loop-holds Inv-loop μ-loop
+loop-holds c = (omega arith, fill-start _ _ _ _)
+
+add-put-next : tie.Need-add-put-next Inv-loop μ-loop
+add-put-next c = let l = c .before .before in omega (arith, l .before .before .pre .0, l .loop .inv .1 .size)
+
+put-next-requires : tie.Need-put-next-requires Inv-loop μ-loop
+put-next-requires c κs = let l = c .before .before in (omega (arith, l .before .before .pre .0, l .loop .inv .1 .size), omega (arith, l .before .before .pre .1, l .loop .inv .1 .count))
+
+add-i : tie.Need-add-i Inv-loop μ-loop
+add-i c = omega (arith, c .before .before .before .before .loop-test .taken)
+
+loop-less : tie.Need-loop-less Inv-loop μ-loop
+loop-less c = omega (arith, c .before .before .before .before .loop-test .taken)
+
+loop-again : tie.Need-loop-again Inv-loop μ-loop
+loop-again c =
+    let l = c .before .before .before .before .before in
+    let r = c .before .before .put-next in
+    (omega (arith, c .before .before .before .before .loop-test .taken), fill-next _ _ _ _ (l .loop .words) (l .loop .rest) (l .loop .i) (l .loop .inv .1) _ _ (r .ensures))
+
+same-length : tie.Need-same-length Inv-loop μ-loop
+same-length c = c .before .loop .inv .1 .size
+
+returns : tie.Need-returns Inv-loop μ-loop
+returns c =
+    let l = c .before in
+    let a = l .before .before .args in
+    let z : l .loop .i ≡ a .n = omega (arith, l .loop .inv .0, c .loop-test .left) in
+    l .loop .inv .1 .done ∙ ap (λ (k : ℕ). run (a .left) (fillStores (a .word) k (a .at)) (a .words .now)) z
+
+pub fill-spec : {M : Type 1} → statement M
+fill-spec =
+    tie.close
+    (tie.spec
+    Inv-loop
+    μ-loop
+    loop-holds
+    add-put-next
+    put-next-requires
+    add-i
+    loop-less
+    loop-again
+    same-length
+    returns)

@@ -1,0 +1,132 @@
+use mathlib.Core.Path.{_≡_, sym, ap, _∙_}
+use Prim.Native.Nat.{ℕ, _+_, _-_, _≤_, _<_}
+use native.Mathlib.Omega.{arith}
+use lib.ListN.{getD}
+use Rattle.entries.proofs.RowLaws.{InRow, row-start, row-next, row-said, one-more}
+use Rattle.entries.proofs.Runs.{went-whole, went-cut}
+use Rattle.entries.specs.Run.{run}
+use Rattle.entries.specs.Rows.{rowStores, piecesWord}
+use Rattle.entries.proofs.rows.pieces_row.Statement.{statement}
+use Rattle.entries.proofs.rows.pieces_row.Tie as tie
+
+abbrev Inv-loop : tie.InvT-loop
+Inv-loop words₀ at n more₀ i₀ words more i =
+    (i ≤ n) × InRow piecesWord words₀ more₀ at words more i × ((k : ℕ) → at ≤ k → k < at + i → piecesWord (getD words₀ k 0) ≡ 0 → ⊥)
+
+abbrev μ-loop : tie.MeasureT-loop
+μ-loop words₀ at n more₀ i₀ words more i = n - i
+
+-- src/rows.rt:53:5
+loop-holds : tie.Need-loop-holds Inv-loop μ-loop
+loop-holds c = (omega arith, row-start _ _ _ _, λ k lo hi. absurd (omega arith))
+
+-- src/rows.rt:54:38
+add-pieces-word : tie.Need-add-pieces-word Inv-loop μ-loop
+add-pieces-word c = let l = c .before in omega (arith, l .before .before .pre, l .loop .inv .1 .size)
+
+-- src/rows.rt:54:32
+mul-pieces-word : tie.Need-mul-pieces-word Inv-loop μ-loop
+mul-pieces-word c = let l = c .before in omega (arith, l .before .before .pre, l .loop .inv .1 .size)
+
+-- src/rows.rt:54:32
+slice-read-pieces-word : tie.Need-slice-read-pieces-word Inv-loop μ-loop
+slice-read-pieces-word c = let l = c .before .before in omega (arith, l .before .before .pre, l .loop .inv .1 .size)
+
+-- src/rows.rt:54:13
+pieces-word-requires : tie.Need-pieces-word-requires Inv-loop μ-loop
+pieces-word-requires c κs = tt
+
+-- src/rows.rt:56:13
+same-length : tie.Need-same-length Inv-loop μ-loop
+same-length c = c .before .before .before .before .loop .inv .1 .size
+
+-- src/rows.rt:56:13
+returns : tie.Need-returns Inv-loop μ-loop
+returns c = let l = c .before .before .before .before in (l .loop .inv .0, l .loop .inv .2, l .loop .inv .1 .done)
+
+-- src/rows.rt:62:45
+add-put-changed : tie.Need-add-put-changed Inv-loop μ-loop
+add-put-changed c = let l = c .before .before .before .before .before in omega (arith, l .before .before .pre, l .loop .inv .1 .size)
+
+-- src/rows.rt:62:13
+put-changed-requires : tie.Need-put-changed-requires Inv-loop μ-loop
+put-changed-requires c κs = let l = c .before .before .before .before .before in omega (arith, l .before .before .pre, l .loop .inv .1 .size)
+
+-- src/rows.rt:68:24
+add-t17 : tie.Need-add-t17 Inv-loop μ-loop
+add-t17 c = let l = c .before .before .before .before .before .before .before .before .before .before .before in omega (arith, l .loop .inv .0, c .before .before .before .before .before .before .before .before .before .before .loop-test .taken)
+
+-- src/rows.rt:65:13
+same-length-2 : tie.Need-same-length-2 Inv-loop μ-loop
+same-length-2 c = c .before .before .before .before .before .put-changed .kept .0 ∙ c .before .before .before .before .before .before .before .before .before .before .before .loop .inv .1 .size
+
+-- src/rows.rt:65:13
+returns-2 : tie.Need-returns-2 Inv-loop μ-loop
+returns-2 c =
+    let l = c .before .before .before .before .before .before .before .before .before .before .before in
+    let r = c .before .before .before .before .before .put-changed in
+    let w = c .before .before .before .before .before .before .before .before .pieces-word in (
+      omega (arith, c .before .before .before .before .before .before .before .before .before .before .loop-test .taken),
+      one-more (λ k. piecesWord (getD (l .before .before .args .words .now) k 0) ≡ 0 → ⊥) _ _ (l .loop .inv .2) (λ z. c .before .before .before .before .before .before .before .if1 .left (w .ensures ∙ ap piecesWord (l .loop .inv .1 .ahead _ (omega arith)) ∙ z)),
+      sym (went-cut (r .result) (r .last .0) (c .if2 .taken))
+          ∙ row-said _ _ _ _ (l .loop .words) (l .loop .more) (l .loop .i) (l .loop .inv .1) _ (w .ensures) _ (r .ensures),
+    )
+
+-- src/rows.rt:53:9
+add-i : tie.Need-add-i Inv-loop μ-loop
+add-i c = omega (arith, c .before .before .before .before .before .before .before .before .before .before .loop-test .taken)
+
+-- src/rows.rt:53:5
+loop-less : tie.Need-loop-less Inv-loop μ-loop
+loop-less c = omega (arith, c .before .before .before .before .before .before .before .before .before .before .loop-test .taken)
+
+-- src/rows.rt:53:5
+loop-again : tie.Need-loop-again Inv-loop μ-loop
+loop-again c =
+    let l = c .before .before .before .before .before .before .before .before .before .before .before in
+    let r = c .before .before .before .before .before .put-changed in
+    let w = c .before .before .before .before .before .before .before .before .pieces-word in (
+      omega (arith, c .before .before .before .before .before .before .before .before .before .before .loop-test .taken),
+      row-next _ _ _ _ (l .loop .words) (l .loop .more) (l .loop .i) (l .loop .inv .1) _ (w .ensures) _ (r .ensures)
+          (went-whole (r .result) (r .last .0) (c .if2 .left)),
+      one-more (λ k. piecesWord (getD (l .before .before .args .words .now) k 0) ≡ 0 → ⊥) _ _ (l .loop .inv .2) (λ z. c .before .before .before .before .before .before .before .if1 .left (w .ensures ∙ ap piecesWord (l .loop .inv .1 .ahead _ (omega arith)) ∙ z)),
+    )
+
+-- src/rows.rt:47:1
+same-length-3 : tie.Need-same-length-3 Inv-loop μ-loop
+same-length-3 c = c .before .loop .inv .1 .size
+
+-- src/rows.rt:47:1
+returns-3 : tie.Need-returns-3 Inv-loop μ-loop
+returns-3 c =
+    let l = c .before in
+    let s = l .before .before in
+    let z : l .loop .i ≡ s .args .n = omega (arith, l .loop .inv .0, c .loop-test .left) in (
+      omega arith,
+      λ k lo hi. l .loop .inv .2 k lo (omega (arith, z)),
+      l .loop .inv .1 .done ∙ ap (λ (k : ℕ). run (s .args .left) (rowStores (s .args .words .now) piecesWord k (s .args .at)) (s .args .words .now)) z,
+    )
+
+pub pieces-row-spec : {M : Type 1} → statement M
+pieces-row-spec =
+    tie.close
+    (tie.spec
+    Inv-loop
+    μ-loop
+    loop-holds
+    add-pieces-word
+    mul-pieces-word
+    slice-read-pieces-word
+    pieces-word-requires
+    same-length
+    returns
+    add-put-changed
+    put-changed-requires
+    add-t17
+    same-length-2
+    returns-2
+    add-i
+    loop-less
+    loop-again
+    same-length-3
+    returns-3)

@@ -1,0 +1,6 @@
+--   Run      making a list of stores, as many as are left
+--   Rows     rows of neighbouring words
+--   Pages    a new L1 page
+pub mod Run
+pub mod Rows
+pub mod Pages

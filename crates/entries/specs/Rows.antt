@@ -1,0 +1,31 @@
+-- Rows of neighbouring words: each stored if it changes, or all stored.
+use mathlib.Core.List.{List, [], _∷_}
+use Prim.Native.Nat.{ℕ, _+_, _*_}
+use lib.Dec.{eqb}
+use lib.ListN.{getD}
+use Rattle.model.specs.Numbers.{if_then_else_, joined}
+use Rattle.model.specs.Layout.{rv64}
+use Rattle.model.specs.Entry as entry
+use Rattle.model.specs.Stores as stores
+use Rattle.table.specs.Stored.{storeOf}
+
+-- the store of word k, which is to become what `to` makes of it, if it changes; and those of n words from at
+abbrev pub changeAt : List ℕ → (ℕ → ℕ) → ℕ → List stores.Store
+changeAt m to k = if eqb (getD m k 0) (to (getD m k 0)) then [] else storeOf k (to (getD m k 0)) ∷ []
+
+abbrev pub rowStores : List ℕ → (ℕ → ℕ) → ℕ → ℕ → List stores.Store
+rowStores m to n at = joined (changeAt m to) n at
+
+-- those of n words from at that are all stored
+abbrev pub fillStores : ℕ → ℕ → ℕ → List stores.Store
+fillStores word n at = joined (λ k. storeOf k word ∷ []) n at
+
+-- the TYPE 6 entry that says the same as an entry without an L1 page; zero for any other
+abbrev pub piecesOf : entry.Entry → ℕ
+piecesOf (entry.flat p) = 0x6000_0000_0000 + p * 0x5555_5555
+piecesOf (entry.pieces info) = 0x6000_0000_0000 + info
+piecesOf (entry.table t) = 0
+piecesOf entry.invalid = 0
+
+abbrev pub piecesWord : ℕ → ℕ
+piecesWord w = piecesOf (entry.decode rv64 w)

@@ -1,0 +1,29 @@
+-- Making a list of stores, as many as are left: what the functions that store say by their result and the memory.
+use mathlib.Core.Bool.{Bool, true, false}
+use mathlib.Core.List.{List, [], _∷_}
+use Prim.Native.Nat.{ℕ, zero, suc}
+use lib.ListN.{set}
+use Rattle.model.specs.Stores.{Store}
+use Rattle.entries.specs.declared.Budget.{Budget}
+
+-- all were made, and what is left; or the limit cut them
+pub data Out : Type 0 where
+  whole : Budget → List ℕ → Out
+  cut : List ℕ → Out
+
+abbrev pub out : Bool → Budget → List ℕ → Out
+out true left m = whole left m
+out false left m = cut m
+
+abbrev pub andThen : Out → (Budget → List ℕ → Out) → Out
+andThen (whole left m) next = next left m
+andThen (cut m) next = cut m
+
+-- more stores may be made, and the last went to word last
+unfoldable pub runFrom : ℕ → ℕ → List Store → List ℕ → Out
+runFrom more last [] m = whole (record { more = more; last = last }) m
+runFrom zero last (s ∷ ss) m = cut m
+runFrom (suc more) last (s ∷ ss) m = runFrom more (s .at) ss (set m (s .at) (s .word))
+
+abbrev pub run : Budget → List Store → List ℕ → Out
+run left ss m = runFrom (left .more) (left .last) ss m

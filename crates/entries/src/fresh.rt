@@ -1,0 +1,230 @@
+// The stores that fill a new L1 page.
+use crate::Budget;
+use crate::Went;
+use crate::put::put;
+use crate::rows::fill;
+use forms::Place;
+use forms::Request;
+use forms::range::first_entry;
+use forms::range::past_entry;
+use forms::words::after_word;
+use forms::words::old_word;
+use forms::words::page_at;
+use forms::words::spread;
+use table::Entry;
+use table::Frame;
+use table::PageNumber;
+ghost use mathlib.Core.Path.{_≡_};
+ghost use mathlib.Core.Bool.{true};
+ghost use mathlib.Core.List.{[], _∷_};
+ghost use Prim.Native.Nat.{_+_, _-_, _*_, _≤_, _<_};
+ghost use Rattle.entries.specs.Pages.{Plain, newRun};
+ghost use Rattle.entries.specs.Run.{out, run};
+ghost use Rattle.forms.specs.Kinds.{requestOf, Fair, Lies, Past};
+ghost use Rattle.model.specs.Forms.{l1Word};
+ghost use Rattle.model.specs.Frame.{lent};
+ghost use Rattle.model.specs.Stores.{storeAt, newTable};
+ghost use Rattle.table.specs.Views.{frameOf, entryOf};
+ghost use Rattle.theory.specs.Rooted.{Good};
+ghost use Rattle.model.specs.Entry as entry;
+
+// L1 entry i of block b, in the new page.
+pub fn new_entry(
+    f: Frame,
+    words: &mut [u64],
+    q: Request,
+    e: Entry,
+    b: u64,
+    new: PageNumber,
+    i: u64,
+    left: Budget,
+) -> Went
+    requires { ⌜ (b < 512) × (i < 512) × Fair q × Good (frameOf f (now words)) (now words) (entryOf e) × (lent (frameOf f (now words)) (new .0) ≡ true) ⌝ }
+    ensures { λ r. ⌜ out (r .all) (r .left) (now (words .exit))
+        ≡ run left (storeAt (frameOf f (now (words .entry))) (new .0) i
+        (l1Word (frameOf f (now (words .entry))) (now (words .entry)) (requestOf q) (entryOf e) b i) ∷ []) (now (words .entry)) ⌝ }
+{
+    let at = page_at(f, words, new) + i as usize;
+    let word = after_word(f, words, q, e, b, i);
+    put(words, left, at, word)
+}
+
+// The same for an entry outside the range.
+pub fn old_entry(
+    f: Frame,
+    words: &mut [u64],
+    q: Request,
+    e: Entry,
+    b: u64,
+    new: PageNumber,
+    i: u64,
+    left: Budget,
+) -> Went
+    requires { ⌜ (b < 512) × (i < 512) × Fair q × Good (frameOf f (now words)) (now words) (entryOf e) × (lent (frameOf f (now words)) (new .0) ≡ true) × Lies (requestOf q) (b * 8192 + i * 16) 16 Place.Outside ⌝ }
+    ensures { λ r. ⌜ out (r .all) (r .left) (now (words .exit))
+        ≡ run left (storeAt (frameOf f (now (words .entry))) (new .0) i
+        (l1Word (frameOf f (now (words .entry))) (now (words .entry)) (requestOf q) (entryOf e) b i) ∷ []) (now (words .entry)) ⌝ }
+{
+    let at = page_at(f, words, new) + i as usize;
+    let word = old_word(f, words, e, i);
+    put(words, left, at, word)
+}
+
+// The entries from .. to of a new page, in order.
+pub fn new_entries(
+    f: Frame,
+    words: &mut [u64],
+    q: Request,
+    e: Entry,
+    b: u64,
+    new: PageNumber,
+    from: u64,
+    to: u64,
+    left: Budget,
+) -> Went
+    requires { ⌜ (b < 512) × (to ≤ 512) × (from ≤ to) × Fair q × Good (frameOf f (now words)) (now words) (entryOf e) × (lent (frameOf f (now words)) (new .0) ≡ true) × Plain (entryOf e) ⌝ }
+    ensures { λ r. ⌜ out (r .all) (r .left) (now (words .exit))
+        ≡ run left (newRun (frameOf f (now (words .entry))) (now (words .entry)) (requestOf q) (entryOf e) b (new .0) (to - from) from) (now (words .entry)) ⌝ }
+{
+    let mut more = left;
+    for i in from..to {
+        let went = new_entry(f, words, q, e, b, new, i, more);
+        if !went.all {
+            return went;
+        }
+        let rest = went.left;
+        more = rest;
+    }
+    Went {
+        all: true,
+        left: more,
+    }
+}
+
+// The same for entries outside the range, one by one.
+pub fn old_loop(
+    f: Frame,
+    words: &mut [u64],
+    q: Request,
+    e: Entry,
+    b: u64,
+    new: PageNumber,
+    from: u64,
+    to: u64,
+    left: Budget,
+) -> Went
+    requires { ⌜ (b < 512) × (to ≤ 512) × (from ≤ to) × Fair q × Good (frameOf f (now words)) (now words) (entryOf e) × (lent (frameOf f (now words)) (new .0) ≡ true) × Plain (entryOf e)
+        × Lies (requestOf q) (b * 8192 + from * 16) ((to - from) * 16) Place.Outside ⌝ }
+    ensures { λ r. ⌜ out (r .all) (r .left) (now (words .exit))
+        ≡ run left (newRun (frameOf f (now (words .entry))) (now (words .entry)) (requestOf q) (entryOf e) b (new .0) (to - from) from) (now (words .entry)) ⌝ }
+{
+    let mut more = left;
+    for i in from..to {
+        let went = old_entry(f, words, q, e, b, new, i, more);
+        if !went.all {
+            return went;
+        }
+        let rest = went.left;
+        more = rest;
+    }
+    Went {
+        all: true,
+        left: more,
+    }
+}
+
+// The same in a block of one permission, p: where the limit allows for all of them, they are filled without asking at each.
+pub fn old_fill(
+    f: Frame,
+    words: &mut [u64],
+    q: Request,
+    e: Entry,
+    b: u64,
+    new: PageNumber,
+    from: u64,
+    to: u64,
+    p: u64,
+    left: Budget,
+) -> Went
+    requires { ⌜ (b < 512) × (to ≤ 512) × (from ≤ to) × Fair q × Good (frameOf f (now words)) (now words) (entryOf e) × (lent (frameOf f (now words)) (new .0) ≡ true) × Plain (entryOf e)
+        × Lies (requestOf q) (b * 8192 + from * 16) ((to - from) * 16) Place.Outside × (entryOf e ≡ entry.flat p) ⌝ }
+    ensures { λ r. ⌜ out (r .all) (r .left) (now (words .exit))
+        ≡ run left (newRun (frameOf f (now (words .entry))) (now (words .entry)) (requestOf q) (entryOf e) b (new .0) (to - from) from) (now (words .entry)) ⌝ }
+{
+    let n = to - from;
+    if left.more < n {
+        return old_loop(f, words, q, e, b, new, from, to, left);
+    }
+    let at = page_at(f, words, new) + from as usize;
+    let rest = fill(words, at, n as usize, spread(p), left);
+    Went {
+        left: rest,
+        all: true,
+    }
+}
+
+// The same in any block.
+pub fn old_entries(
+    f: Frame,
+    words: &mut [u64],
+    q: Request,
+    e: Entry,
+    b: u64,
+    new: PageNumber,
+    from: u64,
+    to: u64,
+    left: Budget,
+) -> Went
+    requires { ⌜ (b < 512) × (to ≤ 512) × (from ≤ to) × Fair q × Good (frameOf f (now words)) (now words) (entryOf e) × (lent (frameOf f (now words)) (new .0) ≡ true) × Plain (entryOf e)
+        × Lies (requestOf q) (b * 8192 + from * 16) ((to - from) * 16) Place.Outside ⌝ }
+    ensures { λ r. ⌜ out (r .all) (r .left) (now (words .exit))
+        ≡ run left (newRun (frameOf f (now (words .entry))) (now (words .entry)) (requestOf q) (entryOf e) b (new .0) (to - from) from) (now (words .entry)) ⌝ }
+{
+    match e {
+        Entry::Flat(p) => old_fill(f, words, q, e, b, new, from, to, p, left),
+        Entry::Pieces(_) => old_loop(f, words, q, e, b, new, from, to, left),
+        Entry::Table(_) => old_loop(f, words, q, e, b, new, from, to, left),
+        Entry::Invalid => old_loop(f, words, q, e, b, new, from, to, left),
+    }
+}
+
+// Where the entries that the range can meet end, which is not before they begin.
+pub fn near_end(q: Request, b: u64, from: u64) -> u64
+    requires { ⌜ (b < 512) × (from ≤ 512) × Fair q ⌝ }
+    ensures { λ r. ⌜ (from ≤ r) × (r ≤ 512) × Past (requestOf q) b r ⌝ }
+{
+    let past = past_entry(q, b);
+    if past < from {
+        return from;
+    }
+    past
+}
+
+// All entries of a new page, in order: those below the range, those that it can meet, and those above.
+pub fn stores(
+    f: Frame,
+    words: &mut [u64],
+    q: Request,
+    e: Entry,
+    b: u64,
+    new: PageNumber,
+    left: Budget,
+) -> Went
+    requires { ⌜ (b < 512) × Fair q × Good (frameOf f (now words)) (now words) (entryOf e) × (lent (frameOf f (now words)) (new .0) ≡ true) × Plain (entryOf e) ⌝ }
+    ensures { λ r. ⌜ out (r .all) (r .left) (now (words .exit))
+        ≡ run left (newTable (frameOf f (now (words .entry))) (now (words .entry)) (requestOf q) (entryOf e) b (new .0)) (now (words .entry)) ⌝ }
+{
+    let from = first_entry(q, b);
+    let to = near_end(q, b, from);
+    let below = old_entries(f, words, q, e, b, new, 0, from, left);
+    if !below.all {
+        return below;
+    }
+    let more = below.left;
+    let near = new_entries(f, words, q, e, b, new, from, to, more);
+    if !near.all {
+        return near;
+    }
+    let rest = near.left;
+    old_entries(f, words, q, e, b, new, to, 512, rest)
+}

@@ -1,0 +1,96 @@
+// The stores of a block that has an L1 page of its own, and keeps it.
+use crate::Budget;
+use crate::Went;
+use crate::put::put_changed;
+use forms::Place;
+use forms::Request;
+use forms::range::first_entry;
+use forms::range::lies;
+use forms::range::past_entry;
+use forms::words::after_word;
+use forms::words::page_at;
+use table::Entry;
+use table::Frame;
+use table::PageNumber;
+ghost use mathlib.Core.Path.{_≡_};
+ghost use Prim.Native.Nat.{_<_};
+ghost use Rattle.entries.specs.Run.{out, run};
+ghost use Rattle.forms.specs.Kinds.{requestOf, Fair};
+ghost use Rattle.model.specs.Forms.{l1Word};
+ghost use Rattle.model.specs.Stores.{ifChanged, sameTable};
+ghost use Rattle.table.specs.Views.{frameOf};
+ghost use Rattle.theory.specs.Rooted.{Good};
+ghost use Rattle.model.specs.Entry as entry;
+
+// L1 entry i of block b, in the block's own page t.
+pub fn same_entry(
+    f: Frame,
+    words: &mut [u64],
+    q: Request,
+    t: PageNumber,
+    b: u64,
+    i: u64,
+    left: Budget,
+) -> Went
+    requires { ⌜ (b < 512) × (i < 512) × Fair q × Good (frameOf f (now words)) (now words) (entry.table (t .0)) ⌝ }
+    ensures { λ r. ⌜ out (r .all) (r .left) (now (words .exit))
+        ≡ run left (ifChanged (frameOf f (now (words .entry))) (now (words .entry)) (t .0) i
+        (l1Word (frameOf f (now (words .entry))) (now (words .entry)) (requestOf q) (entry.table (t .0)) b i)) (now (words .entry)) ⌝ }
+{
+    let at = page_at(f, words, t) + i as usize;
+    let word = after_word(f, words, q, Entry::Table(t), b, i);
+    put_changed(words, left, at, word)
+}
+
+// Those L1 entries of block b that change, in order, in the block's own page t. Entries that lie outside the range stay: they are not read.
+pub fn same_table(
+    f: Frame,
+    words: &mut [u64],
+    q: Request,
+    t: PageNumber,
+    b: u64,
+    left: Budget,
+) -> Went
+    requires { ⌜ (b < 512) × Fair q × Good (frameOf f (now words)) (now words) (entry.table (t .0)) ⌝ }
+    ensures { λ r. ⌜ out (r .all) (r .left) (now (words .exit))
+        ≡ run left (sameTable (frameOf f (now (words .entry))) (now (words .entry)) (requestOf q) (entry.table (t .0)) b (t .0)) (now (words .entry)) ⌝ }
+{
+    let from = first_entry(q, b);
+    let to = past_entry(q, b);
+    let mut more = left;
+    for i in from..to {
+        let went = same_entry(f, words, q, t, b, i, more);
+        if !went.all {
+            return went;
+        }
+        let rest = went.left;
+        more = rest;
+    }
+    Went {
+        all: true,
+        left: more,
+    }
+}
+
+// The same; outside the range no entry changes.
+pub fn own_table(
+    f: Frame,
+    words: &mut [u64],
+    q: Request,
+    t: PageNumber,
+    b: u64,
+    left: Budget,
+) -> Went
+    requires { ⌜ (b < 512) × Fair q × Good (frameOf f (now words)) (now words) (entry.table (t .0)) ⌝ }
+    ensures { λ r. ⌜ out (r .all) (r .left) (now (words .exit))
+        ≡ run left (sameTable (frameOf f (now (words .entry))) (now (words .entry)) (requestOf q) (entry.table (t .0)) b (t .0)) (now (words .entry)) ⌝ }
+{
+    match lies(q, b * 8192, 8192) {
+        Place::Outside => Went {
+            all: true,
+            left: left,
+        },
+        Place::Inside => same_table(f, words, q, t, b, left),
+        Place::Across => same_table(f, words, q, t, b, left),
+    }
+}
