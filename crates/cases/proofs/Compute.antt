@@ -18,12 +18,12 @@ use Rattle.model.specs.Forms.{Request, permOf, inRange, firstGib, gibs, afterIn
 use Rattle.model.specs.Stores.{apply, needsPage, storeAt, storeL2, ifChanged, ifChangedL2, newPages, sameTable, newTable, linkTable, blockStores, storesFrom}
 use Rattle.model.specs.Fence.{inRoot, oneL1Store, fenceFor}
 use Rattle.model.specs.Calls.{Outcome, firstMet, slotAt, badRange, meetsLent, registerFor, rootOf, refuse, openRefusal, openAt, openSlot, closeRefusal, closeSlot, finished, editRefusalWith, storeListWith, editRefusal, storeList, made, editWith, editSlot}
-use Rattle.laws.proofs.PageRuns.{covers, misses, unmet, runIs, gibBy, formBy, formsInBy, formsBy, quickForms, edit-quick}
+use Rattle.laws.proofs.PageRuns.{covers, misses, saysOne, alike, runIs, gibBy, formBy, formsInBy, formsBy, quickForms, edit-quick}
 use Rattle.cases.specs.Bench.{edits}
 
 -- to unfold this is to unfold all that it names
 unfoldable pub compute : Unit {0}
-unfolding every joined each member distinct digit pack ppnOf wpriOf sdidOf modeOf registerOf isBare registerOk infoOf typeOf zeroOf decode encode fieldOf clean pageOf blocks space lent boundsOk frameOk indexOf wordAt pn0 pn1 pn2 pieceOf rootPages entryPage entryPlace l2Word entryAt found walk needOf originalOf causeOf columnOf mayRows may judge isMachine reads lookup isOpen openRegisters linkOf roots sdids soundRegister soundSlots freeOf linksIn used cleanPage soundEntry soundRoot soundTable sound freePages permOf inRange firstGib gibs afterIn after allAre gibFirst gibIsOne piecesAreOne piecesInfo formIn l1Word formsIn formsOf forms apply needsPage storeAt storeL2 ifChanged ifChangedL2 newPages sameTable newTable linkTable blockStores storesFrom inRoot oneL1Store fenceFor firstMet slotAt badRange meetsLent registerFor rootOf refuse openRefusal openAt openSlot closeRefusal closeSlot finished editRefusalWith storeListWith editRefusal storeList made editWith editSlot headD covers misses unmet runIs gibBy formBy formsInBy formsBy quickForms
+unfolding every joined each member distinct digit pack ppnOf wpriOf sdidOf modeOf registerOf isBare registerOk infoOf typeOf zeroOf decode encode fieldOf clean pageOf blocks space lent boundsOk frameOk indexOf wordAt pn0 pn1 pn2 pieceOf rootPages entryPage entryPlace l2Word entryAt found walk needOf originalOf causeOf columnOf mayRows may judge isMachine reads lookup isOpen openRegisters linkOf roots sdids soundRegister soundSlots freeOf linksIn used cleanPage soundEntry soundRoot soundTable sound freePages permOf inRange firstGib gibs afterIn after allAre gibFirst gibIsOne piecesAreOne piecesInfo formIn l1Word formsIn formsOf forms apply needsPage storeAt storeL2 ifChanged ifChangedL2 newPages sameTable newTable linkTable blockStores storesFrom inRoot oneL1Store fenceFor firstMet slotAt badRange meetsLent registerFor rootOf refuse openRefusal openAt openSlot closeRefusal closeSlot finished editRefusalWith storeListWith editRefusal storeList made editWith editSlot headD covers misses saysOne alike runIs gibBy formBy formsInBy formsBy quickForms
 compute = tt
 
 abbrev pub pos : 0 < piecePages rv64

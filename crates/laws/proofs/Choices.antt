@@ -14,6 +14,10 @@ pub and-false : (a b : Bool) → (a && b) ≡ false → a ≡ true → b ≡ tru
 and-false true b h p q = true≢false (sym q ∙ h)
 and-false false b h p q = false≢true p
 
+pub and-assoc : (a b c : Bool) → ((a && b) && c) ≡ (a && (b && c))
+and-assoc true b c = refl
+and-assoc false b c = refl
+
 pub not-true-false : (a : Bool) → not a ≡ true → a ≡ false
 not-true-false true h = absurd (false≢true h)
 not-true-false false h = refl
