@@ -1,20 +1,21 @@
 -- An edit with its finished forms, its stores, its memory and the test for a sound table each computed quickly: the same.
--- Beside it, two refusals of open, from a table that is known to be sound.
+-- Open likewise; and two of its refusals, from a table that is known to be sound.
 use mathlib.Core.Path.{_≡_, refl, ap, ap₂, _∙_}
 use mathlib.Core.Bool.{Bool, true, false, not, _&&_, _||_}
-use mathlib.Core.List.{List, [], _∷_}
+use mathlib.Core.List.{List, [], _∷_, headD}
 use Prim.Native.Nat.{ℕ, _*_, _<_}
 use lib.Dec.{eqb, ltb}
-use lib.ListN.{length, take}
+use lib.ListN.{length, take, replicate}
 use Rattle.model.specs.Numbers.{if_then_else_, member}
 use Rattle.model.specs.Layout.{gibBlocks, piecePages, slotCount, maxSdid}
-use Rattle.model.specs.Frame.{Frame, frameOk}
+use Rattle.model.specs.Frame.{Frame, frameOk, indexOf}
 use Rattle.model.specs.Sound.{Slot, isOpen, roots, sdids, sound, freePages}
 use Rattle.model.specs.Forms.{Request, Form, firstGib}
 use Rattle.model.specs.Stores.{Store, newPages}
-use Rattle.model.specs.Calls.{Outcome, refusedWith, firstMet, slotAt, badRange, meetsLent, rootOf, refuse, openRefusal, openSlot, editRefusalWith, storeListWith, made, editWith, editSlot}
+use Rattle.model.specs.Fence.{noFence}
+use Rattle.model.specs.Calls.{Outcome, refusedWith, opened, firstMet, slotAt, badRange, meetsLent, rootOf, refuse, openRefusal, openAt, openSlot, editRefusalWith, storeListWith, made, editWith, editSlot}
 use Rattle.laws.proofs.PageRuns.{quickForms, edit-quick}
-use Rattle.cases.proofs.Passes.{passes, apply-passes}
+use Rattle.cases.proofs.Passes.{passes, apply-passes, pasted, sets-pasted}
 use Rattle.cases.proofs.Stores.{quickStores, stores-quick}
 use Rattle.cases.proofs.Sounds.{quickSound, sound-quick}
 
@@ -76,15 +77,42 @@ module _ (F : Frame) (pos : 0 < piecePages (F .layout)) (m : List ℕ) (slots : 
       (ap (λ (l : List Store). made F m slots q l limit) (list-quick (quickForms F m q root pos))
       ∙ made-quick (quickList (quickForms F m q root pos)) limit)
 
--- ---- open, of a sound table and an empty slot
+-- ---- open
 
-module _ (F : Frame) (m : List ℕ) (slots : List Slot) (s sdid : ℕ)
-    (ok : frameOk F m ≡ true) (sounds : sound F m slots ≡ true) (empty : (not (ltb s slotCount) || isOpen (slotAt slots s)) ≡ false) where
-  -- an SDID that is held is refused with 8, whatever pages are free
-  pub held-is-8 : (ltb maxSdid sdid || member sdid (sdids F slots)) ≡ true → openSlot F m slots s sdid .reply ≡ refusedWith 8
-  unfolding openSlot openRefusal firstMet refuse
-  held-is-8 held = rw (ok, sounds, empty, held) refl
+module _ (F : Frame) (m : List ℕ) (slots : List Slot) (s sdid : ℕ) where
+  unfoldable pub quickOpenAt : ℕ → Outcome
+  quickOpenAt root =
+      record {
+        reply = opened;
+        memory = pasted m (indexOf F root 0) (replicate (F .layout .words) 0);
+        slots = openAt F m slots root s sdid .slots;
+        fence = noFence;
+      }
 
-  pub full-is-7 : (ltb maxSdid sdid || member sdid (sdids F slots)) ≡ false → eqb (length (freePages F m (roots F slots))) 0 ≡ true → openSlot F m slots s sdid .reply ≡ refusedWith 7
-  unfolding openSlot openRefusal firstMet refuse
-  full-is-7 free full = rw (ok, sounds, empty, free, full) refl
+  open-at-quick : (root : ℕ) → openAt F m slots root s sdid ≡ quickOpenAt root
+  unfolding openAt quickOpenAt
+  open-at-quick root =
+      ap (λ (l : List ℕ). record { reply = opened; memory = l; slots = openAt F m slots root s sdid .slots; fence = noFence })
+      (sets-pasted m (indexOf F root 0) (replicate (F .layout .words) 0))
+
+  unfoldable pub quickOpen : Outcome
+  quickOpen =
+      if eqb (openRefusal F m slots s sdid) 0 then quickOpenAt (headD (freePages F m (roots F slots)) 0) else
+      refuse F m slots (openRefusal F m slots s sdid)
+
+  pub open-is-quick : openSlot F m slots s sdid ≡ quickOpen
+  unfolding openSlot quickOpen
+  open-is-quick =
+      ap (λ (o : Outcome). if eqb (openRefusal F m slots s sdid) 0 then o else refuse F m slots (openRefusal F m slots s sdid))
+      (open-at-quick (headD (freePages F m (roots F slots)) 0))
+
+  -- of a sound table and an empty slot
+  module _ (ok : frameOk F m ≡ true) (sounds : sound F m slots ≡ true) (empty : (not (ltb s slotCount) || isOpen (slotAt slots s)) ≡ false) where
+    -- an SDID that is held is refused with 8, whatever pages are free
+    pub held-is-8 : (ltb maxSdid sdid || member sdid (sdids F slots)) ≡ true → openSlot F m slots s sdid .reply ≡ refusedWith 8
+    unfolding openSlot openRefusal firstMet refuse
+    held-is-8 held = rw (ok, sounds, empty, held) refl
+
+    pub full-is-7 : (ltb maxSdid sdid || member sdid (sdids F slots)) ≡ false → eqb (length (freePages F m (roots F slots))) 0 ≡ true → openSlot F m slots s sdid .reply ≡ refusedWith 7
+    unfolding openSlot openRefusal firstMet refuse
+    full-is-7 free full = rw (ok, sounds, empty, free, full) refl

@@ -1,14 +1,14 @@
 -- Stores made in passes over the memory, and not each by a way of its own from the first word: the same, and quick.
 -- The idea: a pass makes stores as long as each is at a later word than the one before; an edit's stores take few passes.
-use mathlib.Core.Path.{_≡_, refl, sym, ap, _∙_, subst}
+use mathlib.Core.Path.{_≡_, refl, sym, ap, _∙_}
 use mathlib.Core.Bool.{Bool, true, false}
 use mathlib.Core.List.{List, [], _∷_, _++_}
 use Prim.Native.Nat.{ℕ, zero, suc, _+_}
 use native.Mathlib.Omega.{arith}
-use lib.Dec.{eqb, ltb}
-use lib.ListN.{length, set, length-append}
-use lib.Seq.{set-at, append-snoc}
-use borrow.Author.Tests.{eqb-true}
+use lib.Dec.{eqb, ltb, leb}
+use lib.ListN.{length, take, drop, length-append}
+use lib.Seq.{set-at, append-snoc, sets, sets-eq}
+use borrow.Author.Tests.{eqb-true, leb-true}
 use Rattle.model.specs.Stores.{Store, apply}
 use Rattle.laws.proofs.Choices.{split}
 
@@ -76,3 +76,15 @@ pub apply-passes : (d : ℕ) (ss : List Store) (m : List ℕ) → apply ss m ≡
 unfolding passes
 apply-passes zero ss m = refl
 apply-passes (suc d) ss m = pass-same 0 [] m ss refl ∙ apply-passes d (pass 0 m ss .1) (pass 0 m ss .0)
+
+-- ---- a run of stores to neighbouring words, at one go
+
+unfoldable pub pasted : List ℕ → ℕ → List ℕ → List ℕ
+pasted m i vs = elim (leb (i + length vs) (length m)) [ true ↦ take i m ++ vs ++ drop (i + length vs) m | false ↦ sets m i vs ]
+
+pub sets-pasted : (m : List ℕ) (i : ℕ) (vs : List ℕ) → sets m i vs ≡ pasted m i vs
+unfolding pasted
+sets-pasted m i vs =
+    split (leb (i + length vs) (length m))
+    (λ h. sets-eq vs m i (leb-true _ _ h) ∙ sym (ap (λ (b : Bool). elim b as (λ x. List ℕ) [ true ↦ take i m ++ vs ++ drop (i + length vs) m | false ↦ sets m i vs ]) h))
+    (λ h. sym (ap (λ (b : Bool). elim b as (λ x. List ℕ) [ true ↦ take i m ++ vs ++ drop (i + length vs) m | false ↦ sets m i vs ]) h))

@@ -219,9 +219,9 @@ module _ (F : Frame) (m : List ℕ) (q : Request) (root : ℕ) where
   same-of (suc n) g =
       ap₂ (λ (x y : List Form). x ++ y) (same-in (gibIsOne F m q root g (gibFirst F m q root g)) (gibFirst F m q root g) gibBlocks (g * gibBlocks)) (same-of n (suc g))
 
-  -- a block halved so often is 16 pages
+  -- a block halved nine times is the 16 pages of one L1 entry; once more, for an entry that the range meets
   abbrev pub halvings : ℕ
-  halvings = 9
+  halvings = 10
 
   -- the finished forms, by runs of pages
   unfoldable pub quickForms : 0 < piecePages (F .layout) → List Form
