@@ -10,7 +10,7 @@ use lib.ListN.{length, take, drop, length-append}
 use lib.Seq.{set-at, append-snoc, sets, sets-eq}
 use borrow.Author.Tests.{eqb-true, leb-true}
 use Rattle.model.specs.Stores.{Store, apply}
-use Rattle.laws.proofs.Choices.{split}
+use Rattle.laws.proofs.Choices.{split, by-test}
 
 abbrev Left : Type 0
 Left = List ℕ × List Store
@@ -84,7 +84,4 @@ pasted m i vs = elim (leb (i + length vs) (length m)) [ true ↦ take i m ++ vs 
 
 pub sets-pasted : (m : List ℕ) (i : ℕ) (vs : List ℕ) → sets m i vs ≡ pasted m i vs
 unfolding pasted
-sets-pasted m i vs =
-    split (leb (i + length vs) (length m))
-    (λ h. sets-eq vs m i (leb-true _ _ h) ∙ sym (ap (λ (b : Bool). elim b as (λ x. List ℕ) [ true ↦ take i m ++ vs ++ drop (i + length vs) m | false ↦ sets m i vs ]) h))
-    (λ h. sym (ap (λ (b : Bool). elim b as (λ x. List ℕ) [ true ↦ take i m ++ vs ++ drop (i + length vs) m | false ↦ sets m i vs ]) h))
+sets-pasted m i vs = by-test (leb (i + length vs) (length m)) (λ h. sets-eq vs m i (leb-true _ _ h)) (λ h. refl)

@@ -1,11 +1,10 @@
 -- The stores of an edit, with the words of L1 pages by runs of pages and read quickly: the same, and quick.
 -- The idea: most L1 entries hold 16 pages of one permission, so their word is that permission times 0x1111111111111111.
 use mathlib.Core.Path.{_≡_, refl, sym, ap, ap₂, _∙_, fun-ext}
-use mathlib.Core.Bool.{Bool, true, false}
+use mathlib.Core.Bool.{true, false}
 use mathlib.Core.List.{List, [], _∷_, _++_, tail, headD}
 use Prim.Native.Nat.{ℕ, zero, suc, _+_, _*_, _<_}
 use lib.Dec.{eqb, ltb}
-use borrow.Author.Tests.{ltb-true}
 use Rattle.model.specs.Numbers.{if_then_else_, joined, pack}
 use Rattle.model.specs.Layout.{blockPages, piecePages}
 use Rattle.model.specs.Entry.{Entry, flat, pieces, table, invalid, encode}
@@ -13,7 +12,7 @@ use Rattle.model.specs.Frame.{Frame, wordAt}
 use Rattle.model.specs.Walk.{entryAt}
 use Rattle.model.specs.Forms.{Request, Form, wantFlat, wantPieces, wantTable, afterIn, l1Word}
 use Rattle.model.specs.Stores.{Store, needsPage, storeAt, storeL2, ifChanged, ifChangedL2, sameTable, newTable, linkTable, blockStores, storesFrom}
-use Rattle.laws.proofs.Choices.{split, and-true}
+use Rattle.laws.proofs.Choices.{by-test, and-true}
 use Rattle.laws.proofs.Digits.{pack-cong, pack-one}
 use Rattle.laws.proofs.Peeks.{peek, word-is-peek}
 use Rattle.laws.proofs.PageRuns.{alike, quickAfter, after-quick, after-alike}
@@ -34,12 +33,11 @@ module _ (F : Frame) (pos : 0 < piecePages (F .layout)) (m : List ℕ) (q : Requ
   word-quick : (e : Entry) (b i : ℕ) → l1Word F m q e b i ≡ quickWord e b i
   unfolding quickWord l1Word alike
   word-quick e b i =
-      split (alike F pos m q e (F .layout .fields) (start b i))
+      by-test (alike F pos m q e (F .layout .fields) (start b i))
       (λ h. pack-cong 16 (afterIn F m q e) (λ k. quickAfter F pos m q e (start b i)) (F .layout .fields) (start b i)
       (λ k lo hi. after-alike F pos m q e (F .layout .fields) (start b i) k (and-true (ltb 0 (F .layout .fields)) _ h .1) lo hi ∙ after-quick F pos m q e (start b i))
-      ∙ pack-one 16 (quickAfter F pos m q e (start b i)) (F .layout .fields) (start b i) 0
-      ∙ sym (ap (λ (c : Bool). elim c as (λ x. ℕ) [ true ↦ quickAfter F pos m q e (start b i) * pack 16 (λ k. 1) (F .layout .fields) 0 | false ↦ l1Word F m q e b i ]) h))
-      (λ h. sym (ap (λ (c : Bool). elim c as (λ x. ℕ) [ true ↦ quickAfter F pos m q e (start b i) * pack 16 (λ k. 1) (F .layout .fields) 0 | false ↦ l1Word F m q e b i ]) h))
+      ∙ pack-one 16 (quickAfter F pos m q e (start b i)) (F .layout .fields) (start b i) 0)
+      (λ h. refl)
 
   -- ---- an L1 page
 

@@ -32,6 +32,11 @@ pub split {ℓ} : {P : Type ℓ} (b : Bool) → (b ≡ true → P) → (b ≡ fa
 split true t f = t refl
 split false t f = f refl
 
+-- what equals both of two choices, each where the test says it, equals the choice
+pub by-test {ℓ} : {A : Type ℓ} {x y z : A} (b : Bool) → (b ≡ true → z ≡ x) → (b ≡ false → z ≡ y) → z ≡ (elim b as (λ c. A) [ true ↦ x | false ↦ y ])
+by-test true t f = t refl
+by-test false t f = f refl
+
 pub elim-and : (a b : Bool) → (elim a as (λ x. Bool) [ true ↦ b | false ↦ false ]) ≡ (a && b)
 elim-and true b = refl
 elim-and false b = refl

@@ -17,7 +17,7 @@ use Rattle.model.specs.Walk.{pn0, pn1, pn2, pieceOf, entryAt, found}
 use Rattle.model.specs.Sound.{Slot}
 use Rattle.model.specs.Forms.{Request, Form, wantFlat, wantPieces, wantTable, permOf, inRange, afterIn, allAre, pieceStart, piecesAreOne, piecesInfo, formIn, gibFirst, gibIsOne, formsIn, formsOf, forms, firstGib, gibs}
 use Rattle.model.specs.Calls.{rootOf, finished, editWith, editSlot}
-use Rattle.laws.proofs.Choices.{split, and-true, or-left, elim-and}
+use Rattle.laws.proofs.Choices.{split, by-test, and-true, or-left, elim-and}
 use Rattle.laws.proofs.Every.{every-constant, every-split}
 use Rattle.laws.proofs.Digits.{digit-one}
 use Rattle.laws.proofs.Peeks.{peek, word-is-peek}
@@ -76,7 +76,7 @@ module _ (F : Frame) (pos : 0 < piecePages (F .layout)) where
     unfolding afterIn
     after-inside e k h = rw h
 
-    -- what an entry says of a page, with the words of L1 pages read quickly
+    -- what an entry says of a page: in an L1 page, whose words are read quickly, pn[1] chooses the entry and pn[0] its field
     unfoldable pub says : Entry → ℕ → ℕ
     says (flat x) n = x
     says (pieces i) n = digit 4 i (pieceOf (F .layout) n)
@@ -165,24 +165,19 @@ module _ (F : Frame) (pos : 0 < piecePages (F .layout)) where
     abbrev is : Entry → ℕ → ℕ → Bool
     is e p k = eqb (afterIn F m q e k) p
 
-    abbrev halves : ℕ → Entry → ℕ → ℕ → ℕ → Bool
-    halves d e p n s = elim (runIs d e p (n / 2) s) [ true ↦ runIs d e p (n - n / 2) (s + n / 2) | false ↦ false ]
-
     pub run-same : (d : ℕ) (e : Entry) (p n s : ℕ) → allAre F m q e p n s ≡ runIs d e p n s
     unfolding allAre runIs alike
     run-same zero e p n s = refl
     run-same (suc d) e p n s =
-        split (alike e n s)
+        by-test (alike e n s)
         (λ z. let both = and-true (ltb 0 n) _ z in
         every-constant (is e p) (eqb (quickAfter e s) p) n s (ltb-true 0 n (both .0))
-        (λ k lo hi. ap (λ (y : ℕ). eqb y p) (after-alike e n s k (both .1) lo hi ∙ after-quick e s))
-        ∙ sym (ap (λ (b : Bool). elim b as (λ x. Bool) [ true ↦ eqb (quickAfter e s) p | false ↦ halves d e p n s ]) z))
+        (λ k lo hi. ap (λ (y : ℕ). eqb y p) (after-alike e n s k (both .1) lo hi ∙ after-quick e s)))
         (λ z. let sum : n / 2 + (n - n / 2) ≡ n = omega arith in
         sym (ap (λ (k : ℕ). every (is e p) k s) sum)
         ∙ every-split (is e p) (n / 2) (n - n / 2) s
         ∙ ap₂ (λ (a b : Bool). a && b) (run-same d e p (n / 2) s) (run-same d e p (n - n / 2) (s + n / 2))
-        ∙ sym (elim-and (runIs d e p (n / 2) s) (runIs d e p (n - n / 2) (s + n / 2)))
-        ∙ sym (ap (λ (b : Bool). elim b as (λ x. Bool) [ true ↦ eqb (quickAfter e s) p | false ↦ halves d e p n s ]) z))
+        ∙ sym (elim-and (runIs d e p (n / 2) s) (runIs d e p (n - n / 2) (s + n / 2))))
 
 -- ---- the finished form by any such test
 

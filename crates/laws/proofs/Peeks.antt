@@ -1,7 +1,7 @@
 -- A word of a page, read by way of the page's parts: the same, and quick where many words of one page are read.
 -- The idea: to read element i of a list takes i steps. The parts of a page, 16 words each, are made once, and then a word takes few.
 use mathlib.Core.Path.{_≡_, refl, sym, ap, _∙_}
-use mathlib.Core.Bool.{Bool, true, false}
+use mathlib.Core.Bool.{true, false}
 use mathlib.Core.List.{List, [], _∷_}
 use Prim.Native.Nat.{ℕ, zero, suc, _+_, _*_, _-_, _/_, _%_, _<_, zero-le, suc-le-suc}
 use native.Mathlib.Nat.{le-of-suc-le-suc, not-suc-le-zero}
@@ -11,7 +11,7 @@ use lib.ListN.{getD, take, drop}
 use lib.Seq.{getD-take, getD-drop}
 use borrow.Author.Tests.{ltb-true}
 use Rattle.model.specs.Frame.{Frame, indexOf, wordAt}
-use Rattle.laws.proofs.Choices.{split}
+use Rattle.laws.proofs.Choices.{by-test}
 
 -- n parts of 16 words each
 unfoldable pub parts : ℕ → List ℕ → List (List ℕ)
@@ -39,10 +39,9 @@ module _ (F : Frame) (m : List ℕ) where
   pub word-is-peek : (page i : ℕ) → wordAt F m page i ≡ peek page i
   unfolding peek pageParts wordAt indexOf
   word-is-peek page i =
-      split (ltb (i / 16) (F .layout .words / 16))
+      by-test (ltb (i / 16) (F .layout .words / 16))
       (λ h. let at : (page - F .first) * F .layout .words + i ≡ ((page - F .first) * F .layout .words + 0) + (i / 16 * 16 + i % 16) = omega arith in
       ap (λ (k : ℕ). getD m k 0) at
       ∙ sym (getD-drop (indexOf F page 0) m (i / 16 * 16 + i % 16) 0)
-      ∙ sym (part-is (F .layout .words / 16) (i / 16) (i % 16) (drop (indexOf F page 0) m) (ltb-true _ _ h) (omega arith))
-      ∙ sym (ap (λ (b : Bool). elim b as (λ x. ℕ) [ true ↦ getD (getD (pageParts page) (i / 16) []) (i % 16) 0 | false ↦ wordAt F m page i ]) h))
-      (λ h. sym (ap (λ (b : Bool). elim b as (λ x. ℕ) [ true ↦ getD (getD (pageParts page) (i / 16) []) (i % 16) 0 | false ↦ wordAt F m page i ]) h))
+      ∙ sym (part-is (F .layout .words / 16) (i / 16) (i % 16) (drop (indexOf F page 0) m) (ltb-true _ _ h) (omega arith)))
+      (λ h. refl)
