@@ -1,6 +1,7 @@
 -- The finished form, computed by runs of pages and not page by page: the same, and quick enough for the cases.
 -- The idea: a run of pages that lies in the range is of the asked permission; one that misses it is as its L2 entry says, and a flat
--- entry, or one piece of an entry by pieces, says one permission for all of them. Any other run is halved.
+-- entry, one piece of an entry by pieces, or one L1 entry whose fields are all one says one permission for all of them. Any other run is
+-- halved.
 use mathlib.Core.Path.{_≡_, refl, sym, ap, ap₂, _∙_, fun-ext}
 use mathlib.Core.Bool.{Bool, true, false, _&&_, _||_}
 use mathlib.Core.List.{List, [], _∷_, _++_}
