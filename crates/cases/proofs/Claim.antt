@@ -13,6 +13,8 @@ use Rattle.model.specs.Calls.{Outcome, Reply, refusedWith, edited, rootOf, fini
 use Rattle.laws.proofs.PageRuns.{quickForms, forms-quick}
 use Rattle.cases.specs.Bench.{board, smallBoard, none, readWrite, ask, most, opens, closes, look, registerAt, l2, l1, freePagesOf, wordsStored, topDigit}
 use Rattle.cases.specs.Cases.{AllOf, done, both, cases}
+use Rattle.cases.proofs.Sounds.{quickSound, sound-quick}
+use Rattle.cases.proofs.Calls.{held-is-8, full-is-7}
 use Rattle.cases.proofs.Compute.{compute, pos, quick, runs}
 use Rattle.cases.proofs.States.{slots5, memoryNew, outcomeNew, new-is, memoryC, outcomeC, C-is, outcomeF, F-is, memoryG, outcomeG, G-is, outcomeH, H-is, outcome512, D512-is, outcome513, D513-is, outcomeK1, K1-is, outcomeK2, K2-is, outcomeL, L-is, outcomeM, M-is, outcomeM2, M2-is, outcomeN, N-is, outcomeO, O-is}
 
@@ -107,13 +109,17 @@ N-close : closes outcomeN 1 .fence ≡ domainFence 0
 unfolding compute outcomeN
 N-close = refl
 
+K1-sound : quickSound smallBoard (outcomeK1 .memory) (outcomeK1 .slots) ≡ true
+unfolding compute slots5 outcomeK1
+K1-sound = refl
+
 N-first : opens smallBoard outcomeK1 1 5 .reply ≡ refusedWith 8
 unfolding compute slots5 outcomeK1
-N-first = refl
+N-first = held-is-8 smallBoard (outcomeK1 .memory) (outcomeK1 .slots) 1 5 refl (sound-quick smallBoard (outcomeK1 .memory) (outcomeK1 .slots) ∙ K1-sound) refl refl
 
 N-full : opens smallBoard outcomeK1 1 0 .reply ≡ refusedWith 7
 unfolding compute slots5 outcomeK1
-N-full = refl
+N-full = full-is-7 smallBoard (outcomeK1 .memory) (outcomeK1 .slots) 1 0 refl (sound-quick smallBoard (outcomeK1 .memory) (outcomeK1 .slots) ∙ K1-sound) refl refl refl
 
 P-close : closes topDigit 0 .reply ≡ refusedWith 3
 unfolding compute topDigit

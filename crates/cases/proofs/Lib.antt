@@ -1,8 +1,16 @@
 -- The cases hold, by computation.
 --
---   Compute    what unfolds when a case is computed; an edit with its finished forms by runs of pages
+--   Passes     stores made in passes over the memory
+--   Stores     the stores of an edit, with the words of L1 pages by runs of pages
+--   Sounds     whether a table is sound, with the words of L1 pages read quickly
+--   Calls      an edit made of these; two refusals of open
+--   Compute    what unfolds when a case is computed; the quick edit of a state
 --   States     each state that the cases start from, in numbers
 --   Claim      the one claim over all cases
+pub mod Passes
+pub mod Stores
+pub mod Sounds
+pub mod Calls
 pub mod Compute
 pub mod States
 pub mod Claim

@@ -10,7 +10,9 @@ use Rattle.model.specs.Forms.{Request}
 use Rattle.model.specs.Fence.{Fence, noFence, domainFence, addressFence}
 use Rattle.model.specs.Calls.{Outcome, Reply, opened, edited}
 use Rattle.cases.specs.Bench.{board, smallBoard, none, rx, readWrite, ask, most, opens, edits, blank, new, afterC, afterF, afterG, afterH, cut512, cut513, small0, small1, small2, afterL, afterM, afterM2, withZero, unfinished, afterO}
-use Rattle.cases.proofs.Compute.{compute, quick, run}
+use Rattle.cases.proofs.Passes.{pasted, sets-pasted}
+use Rattle.cases.proofs.Calls.{quickOpen}
+use Rattle.cases.proofs.Compute.{compute, quick, run, run-open}
 
 -- ---- slots and memory in numbers
 
@@ -32,9 +34,13 @@ memoryNew = replicate 8192 0
 unfoldable pub outcomeNew : Outcome
 outcomeNew = left opened memoryNew slots5 noFence
 
+new-run : quickOpen board (blank 8192 .memory) (blank 8192 .slots) 0 5 ≡ outcomeNew
+unfolding compute memoryNew slots5 outcomeNew
+new-run = refl
+
 pub new-is : new ≡ outcomeNew
-unfolding compute new memoryNew slots5 outcomeNew
-new-is = refl
+unfolding new
+new-is = run-open 32 0x80000 16 {o = blank 8192} 0 5 refl new-run
 
 -- ---- C, F, G, H
 
@@ -120,9 +126,13 @@ D513-is = run 32 0x80000 16 (ask 0x40000000 0x1000 readWrite) 513 new-is D513-ru
 unfoldable pub outcomeK0 : Outcome
 outcomeK0 = left opened (replicate 1024 0) slots5 noFence
 
+K0-run : quickOpen smallBoard (blank 1024 .memory) (blank 1024 .slots) 0 5 ≡ outcomeK0
+unfolding compute slots5 outcomeK0
+K0-run = refl
+
 pub K0-is : small0 ≡ outcomeK0
-unfolding compute small0 slots5 outcomeK0
-K0-is = refl
+unfolding small0
+K0-is = run-open 32 0x80000 2 {o = blank 1024} 0 5 refl K0-run
 
 unfoldable pub outcomeK1 : Outcome
 outcomeK1 = left (edited 544 true) (nothing 33 (set (set (replicate 1024 0) 32 0x0000400000080001) 512 0x2)) slots5 (domainFence 5)
@@ -187,24 +197,40 @@ M2-is = run 32 0x80000 16 (ask 0xBFFFF000 0x2000 readWrite) most new-is M2-run
 unfoldable pub outcomeN : Outcome
 outcomeN = left opened (replicate 8192 0) (set (set (replicate 8 0) 0 0x1140000000080000) 1 0x1000000000080001) noFence
 
-N-run : opens board outcomeNew 1 0 ≡ outcomeN
+N-run : quickOpen board (outcomeNew .memory) (outcomeNew .slots) 1 0 ≡ outcomeN
 unfolding compute slots5 memoryNew outcomeNew outcomeN
 N-run = refl
 
 pub N-is : withZero ≡ outcomeN
 unfolding withZero
-N-is = ap (λ (o : Outcome). opens board o 1 0) new-is ∙ N-run
+N-is = run-open 32 0x80000 16 1 0 new-is N-run
+
+-- an L1 page of rw alone, lent page 1
+abbrev withPage : List ℕ → List ℕ
+withPage m = pasted m 512 (replicate 512 0x2222222222222222)
+
+unfoldable pub memoryO0 : List ℕ
+memoryO0 = withPage (set (sets (replicate 8192 0) 33 (replicate 31 0x0000200000000000)) 32 0x0000400000080001)
+
+unfoldable pub outcomeO0 : Outcome
+outcomeO0 = left opened memoryO0 slots5 noFence
+
+O0-is : unfinished ≡ outcomeO0
+unfolding unfinished memoryO0 outcomeO0 slots5
+O0-is =
+    ap (λ (m : List ℕ). left opened m (set (replicate 8 0) 0 0x1140000000080000) noFence)
+    (sets-pasted (set (sets (replicate 8192 0) 33 (replicate 31 0x0000200000000000)) 32 0x0000400000080001) 512 (replicate 512 0x2222222222222222))
 
 unfoldable pub outcomeO : Outcome
 outcomeO =
     left (edited 32 true)
-    (sets (set (sets (replicate 8192 0) 33 (replicate 31 0x00006000AAAAAAAA)) 32 0x00006000AAAAAAA2) 512 (replicate 512 0x2222222222222222))
+    (withPage (set (sets (replicate 8192 0) 33 (replicate 31 0x00006000AAAAAAAA)) 32 0x00006000AAAAAAA2))
     slots5 (domainFence 5)
 
-O-run : quick 32 0x80000 16 unfinished (ask 0x40200000 0x200000 none) most ≡ outcomeO
-unfolding compute unfinished slots5 outcomeO
+O-run : quick 32 0x80000 16 outcomeO0 (ask 0x40200000 0x200000 none) most ≡ outcomeO
+unfolding compute memoryO0 outcomeO0 slots5 outcomeO
 O-run = refl
 
 pub O-is : afterO ≡ outcomeO
 unfolding afterO
-O-is = run 32 0x80000 16 {o = unfinished} (ask 0x40200000 0x200000 none) most refl O-run
+O-is = run 32 0x80000 16 (ask 0x40200000 0x200000 none) most O0-is O-run

@@ -14,6 +14,10 @@ pub and-false : (a b : Bool) → (a && b) ≡ false → a ≡ true → b ≡ tru
 and-false true b h p q = true≢false (sym q ∙ h)
 and-false false b h p q = false≢true p
 
+pub and-assoc : (a b c : Bool) → ((a && b) && c) ≡ (a && (b && c))
+and-assoc true b c = refl
+and-assoc false b c = refl
+
 pub not-true-false : (a : Bool) → not a ≡ true → a ≡ false
 not-true-false true h = absurd (false≢true h)
 not-true-false false h = refl
@@ -27,6 +31,11 @@ true-or-false false = inr refl
 pub split {ℓ} : {P : Type ℓ} (b : Bool) → (b ≡ true → P) → (b ≡ false → P) → P
 split true t f = t refl
 split false t f = f refl
+
+-- what equals both of two choices, each where the test says it, equals the choice
+pub by-test {ℓ} : {A : Type ℓ} {x y z : A} (b : Bool) → (b ≡ true → z ≡ x) → (b ≡ false → z ≡ y) → z ≡ (elim b as (λ c. A) [ true ↦ x | false ↦ y ])
+by-test true t f = t refl
+by-test false t f = f refl
 
 pub elim-and : (a b : Bool) → (elim a as (λ x. Bool) [ true ↦ b | false ↦ false ]) ≡ (a && b)
 elim-and true b = refl

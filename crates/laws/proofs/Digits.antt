@@ -1,7 +1,7 @@
 -- A number and its digits: what is packed is read back.
 use mathlib.Core.Path.{_≡_, refl, sym, ap, ap₂, _∙_, subst}
 use Prim.Native.Nat.{ℕ, zero, suc, _+_, _*_, _-_, _/_, _%_, _^_, _≤_, _<_, zero-le, suc-le-suc}
-use native.Mathlib.Nat.{le-of-suc-le-suc, not-suc-le-zero, add-zero, zero-add, div-one, pow-zero, pow-suc, pow-succ', add-mul-div-left, add-mul-mod-self-left, div-eq-of-lt, mod-eq-of-lt, mod-lt, div-div-eq-div-mul, mul-comm, mul-le-mul-left, mod-add-div, div-lt-iff-lt-mul}
+use native.Mathlib.Nat.{le-of-suc-le-suc, not-suc-le-zero, add-zero, zero-add, div-one, pow-zero, pow-suc, pow-succ', add-mul-div-left, add-mul-mod-self-left, div-eq-of-lt, mod-eq-of-lt, mod-lt, div-div-eq-div-mul, mul-comm, mul-le-mul-left, mod-add-div, div-lt-iff-lt-mul, mul-left-comm, mul-one, mul-add}
 use native.Mathlib.Omega.{arith}
 use Rattle.model.specs.Numbers.{digit, pack}
 
@@ -57,3 +57,19 @@ pack-digit base pos (suc n) x s h =
     (λ k l u. let e : k - s ≡ suc (k - suc s) = omega arith in ap (digit base x) e ∙ digit-suc base x (k - suc s))
     ∙ pack-digit base pos n (x / base) (suc s) small in
     ap₂ (λ (a b : ℕ). a + base * b) (ap (digit base x) z ∙ digit-zero base x) rest ∙ mod-add-div x base
+
+-- one digit throughout: as many times the number whose digits are all 1
+pub pack-one : (base p n s t : ℕ) → pack base (λ k. p) n s ≡ p * pack base (λ k. 1) n t
+unfolding pack
+pack-one base p zero s t = omega arith
+pack-one base p (suc n) s t =
+    let r : ℕ = pack base (λ k. 1) n (suc t) in
+    ap (λ (k : ℕ). p + base * k) (pack-one base p n (suc s) (suc t))
+    ∙ ap (λ (k : ℕ). p + k) (mul-left-comm base p r)
+    ∙ ap (λ (k : ℕ). k + p * (base * r)) (sym (mul-one p))
+    ∙ sym (mul-add p 1 (base * r))
+
+-- so each digit of it is that one
+pub digit-one : (base w n i : ℕ) → 0 < base → w ≡ w % base * pack base (λ k. 1) n 0 → i < n → digit base w i ≡ w % base
+digit-one base w n i pos e h =
+    ap (λ (k : ℕ). digit base k i) (e ∙ sym (pack-one base (w % base) n 0 0)) ∙ digit-pack base (λ k. w % base) (λ k. mod-lt w pos) n 0 i h

@@ -1,11 +1,11 @@
 -- `every`: the test of each number of a run.
-use mathlib.Core.Path.{_≡_, refl, sym, ap₂, _∙_, subst}
+use mathlib.Core.Path.{_≡_, refl, sym, ap, ap₂, _∙_, subst}
 use mathlib.Core.Bool.{Bool, true, false, _&&_}
 use Prim.Native.Nat.{ℕ, zero, suc, _+_, _-_, _≤_, _<_, zero-le, suc-le-suc}
-use native.Mathlib.Nat.{le-of-suc-le-suc, not-suc-le-zero, add-zero}
+use native.Mathlib.Nat.{le-of-suc-le-suc, not-suc-le-zero, add-zero, zero-add}
 use native.Mathlib.Omega.{arith}
 use Rattle.model.specs.Numbers.{every}
-use Rattle.laws.proofs.Choices.{and-true, and-both, elim-and}
+use Rattle.laws.proofs.Choices.{and-true, and-both, and-assoc, elim-and}
 
 pub every-step : (test : ℕ → Bool) (n s : ℕ) → every test (suc n) s ≡ (test s && every test n (suc s))
 unfolding every
@@ -47,3 +47,16 @@ every-constant test c zero s l h = absurd (omega arith)
 every-constant test true (suc n) s l h = every-all test (suc n) s (λ i u. h (s + i) (omega arith) (omega arith))
 every-constant test false (suc n) s l h =
     every-step test n s ∙ ap₂ (λ (a b : Bool). a && b) (h s (omega arith) (omega arith)) refl
+
+-- a run in two parts
+pub every-split : (test : ℕ → Bool) (a n s : ℕ) → every test (a + n) s ≡ (every test a s && every test n (s + a))
+unfolding every
+every-split test zero n s = ap₂ (λ (k t : ℕ). every test k t) (zero-add n) (sym (add-zero s))
+every-split test (suc a) n s =
+    let e : suc a + n ≡ suc (a + n) = omega arith in
+    let f : s + suc a ≡ suc s + a = omega arith in
+    rw (e, f)
+    (every-step test (a + n) s
+    ∙ ap (λ (x : Bool). test s && x) (every-split test a n (suc s))
+    ∙ sym (and-assoc (test s) (every test a (suc s)) (every test n (suc s + a)))
+    ∙ sym (ap (λ (x : Bool). x && every test n (suc s + a)) (every-step test a s)))

@@ -6,6 +6,7 @@
 --   Sums       sums over a run of numbers and over a list, and what one change does to them
 --   Digits     `digit` and `pack`: what is packed is read back
 --   Splices    a number spliced from the digits of two
+--   Peeks      a word of a page, read by way of the page's parts: the same, and quick
 --   PageRuns   the finished form by runs of pages and not page by page: the same, and quick
 pub mod Choices
 pub mod Every
@@ -13,4 +14,5 @@ pub mod Times
 pub mod Sums
 pub mod Digits
 pub mod Splices
+pub mod Peeks
 pub mod PageRuns

@@ -1,24 +1,27 @@
 -- The finished form, computed by runs of pages and not page by page: the same, and quick enough for the cases.
 -- The idea: a run of pages that lies in the range is of the asked permission; one that misses it is as its L2 entry says, and a flat
--- entry, or one piece of an entry by pieces, says one permission for all of them.
+-- entry, one piece of an entry by pieces, or one L1 entry whose fields are all one says one permission for all of them. Any other run is
+-- halved.
 use mathlib.Core.Path.{_≡_, refl, sym, ap, ap₂, _∙_, fun-ext}
 use mathlib.Core.Bool.{Bool, true, false, _&&_, _||_}
 use mathlib.Core.List.{List, [], _∷_, _++_}
-use Prim.Native.Nat.{ℕ, zero, suc, _+_, _*_, _-_, _/_, _≤_, _<_}
-use native.Mathlib.Nat.{div-add-mod', le-div-iff-mul-le, le-antisymm}
+use Prim.Native.Nat.{ℕ, zero, suc, _+_, _*_, _-_, _/_, _%_, _≤_, _<_}
+use native.Mathlib.Nat.{div-add-mod', le-div-iff-mul-le, le-antisymm, mod-lt}
 use native.Mathlib.Omega.{arith}
 use lib.Dec.{eqb, leb, ltb}
-use borrow.Author.Tests.{eqb-true, lt-ltb, le-ltb, leb-true, le-leb, lt-leb}
-use Rattle.model.specs.Numbers.{if_then_else_, every, digit}
+use borrow.Author.Tests.{eqb-true, ltb-true, lt-ltb, le-ltb, leb-true, le-leb, lt-leb}
+use Rattle.model.specs.Numbers.{if_then_else_, every, digit, pack}
 use Rattle.model.specs.Layout.{pageBytes, blockPages, gibBlocks, piecePages}
-use Rattle.model.specs.Entry.{Entry, flat, pieces, table, invalid}
-use Rattle.model.specs.Frame.{Frame}
-use Rattle.model.specs.Walk.{pn2, pieceOf, entryAt, found}
+use Rattle.model.specs.Entry.{Entry, flat, pieces, table, invalid, Found, perm, faults, fieldOf}
+use Rattle.model.specs.Frame.{Frame, lent}
+use Rattle.model.specs.Walk.{pn0, pn1, pn2, pieceOf, entryAt, found}
 use Rattle.model.specs.Sound.{Slot}
 use Rattle.model.specs.Forms.{Request, Form, wantFlat, wantPieces, wantTable, permOf, inRange, afterIn, allAre, pieceStart, piecesAreOne, piecesInfo, formIn, gibFirst, gibIsOne, formsIn, formsOf, forms, firstGib, gibs}
 use Rattle.model.specs.Calls.{rootOf, finished, editWith, editSlot}
-use Rattle.laws.proofs.Choices.{split, and-true, or-left}
-use Rattle.laws.proofs.Every.{every-constant}
+use Rattle.laws.proofs.Choices.{split, by-test, and-true, or-left, elim-and}
+use Rattle.laws.proofs.Every.{every-constant, every-split}
+use Rattle.laws.proofs.Digits.{digit-one}
+use Rattle.laws.proofs.Peeks.{peek, word-is-peek}
 
 -- ---- a run of pages, seen from the range
 
@@ -61,6 +64,12 @@ module _ (F : Frame) (pos : 0 < piecePages (F .layout)) where
       (rw p (div-mono (piecePages (F .layout)) _ _ pos (omega arith)))
       (div-mono (piecePages (F .layout)) _ _ pos (omega arith))
 
+  pub one-entry : (s e k : ℕ) → 0 < F .layout .fields → s / F .layout .fields ≡ e / F .layout .fields → s ≤ k → k ≤ e → pn1 (F .layout) k ≡ pn1 (F .layout) s
+  unfolding pn1
+  one-entry s e k l h lo hi =
+      ap (λ (j : ℕ). j % F .layout .words)
+      (le-antisymm (rw h (div-mono (F .layout .fields) k e l hi)) (div-mono (F .layout .fields) s k l lo))
+
   -- ---- all of a run are of one permission
 
   module _ (m : List ℕ) (q : Request) where
@@ -68,55 +77,108 @@ module _ (F : Frame) (pos : 0 < piecePages (F .layout)) where
     unfolding afterIn
     after-inside e k h = rw h
 
-    pub after-outside : (e : Entry) (k : ℕ) → inRange q k ≡ false → afterIn F m q e k ≡ permOf (found F m e k)
+    -- what an entry says of a page: in an L1 page, whose words are read quickly, pn[1] chooses the entry and pn[0] its field
+    unfoldable pub says : Entry → ℕ → ℕ
+    says (flat x) n = x
+    says (pieces i) n = digit 4 i (pieceOf (F .layout) n)
+    says (table t) n = if lent F t then permOf (fieldOf (F .layout) (peek F m t (pn1 (F .layout) n)) (pn0 (F .layout) n)) else 0
+    says invalid n = 0
+
+    found-says : (e : Entry) (n : ℕ) → permOf (found F m e n) ≡ says e n
+    unfolding says found permOf
+    found-says (flat x) n = refl
+    found-says (pieces i) n = refl
+    found-says (table t) n =
+        split (lent F t)
+        (λ h. rw h (ap (λ (w : ℕ). permOf (fieldOf (F .layout) w (pn0 (F .layout) n))) (word-is-peek F m t (pn1 (F .layout) n))))
+        (λ h. rw h refl)
+    found-says invalid n = refl
+
+    pub after-outside : (e : Entry) (k : ℕ) → inRange q k ≡ false → afterIn F m q e k ≡ says e k
     unfolding afterIn
-    after-outside e k h = rw h
+    after-outside e k h = rw h (found-says e k)
 
-    -- of a run outside the range, by its entry
-    unfoldable pub unmet : Entry → ℕ → ℕ → ℕ → Bool
-    unmet (flat x) p n s = eqb x p
-    unmet (pieces i) p n s =
-        if eqb (pn2 s) (pn2 (s + n - 1)) && eqb (pieceOf (F .layout) s) (pieceOf (F .layout) (s + n - 1)) then eqb (digit 4 i (pieceOf (F .layout) s)) p else
-        allAre F m q (pieces i) p n s
-    unmet (table t) p n s = allAre F m q (table t) p n s
-    unmet invalid p n s = allAre F m q invalid p n s
+    -- the permission once the edit is whole, with the words of L1 pages read quickly
+    unfoldable pub quickAfter : Entry → ℕ → ℕ
+    quickAfter e n = if inRange q n then q .permission else says e n
 
-    unfoldable pub runIs : Entry → ℕ → ℕ → ℕ → Bool
-    runIs e p zero s = true
-    runIs e p (suc n) s =
-        if covers q (suc n) s then eqb (q .permission) p else
-        if misses q (suc n) s then unmet e p (suc n) s else
-        allAre F m q e p (suc n) s
+    pub after-quick : (e : Entry) (n : ℕ) → afterIn F m q e n ≡ quickAfter e n
+    unfolding afterIn quickAfter
+    after-quick e n = ap (λ (p : ℕ). if inRange q n then q .permission else p) (found-says e n)
+
+    -- the fields of a word are all one
+    unfoldable pub allOne : ℕ → Bool
+    allOne w = eqb w (w % 16 * pack 16 (λ k. 1) (F .layout .fields) 0)
+
+    -- the n pages from s are of one permission by the entry's form: by a flat entry; by one piece; by one L1 entry whose fields are all one
+    unfoldable pub saysOne : Entry → ℕ → ℕ → Bool
+    saysOne (flat x) n s = true
+    saysOne (pieces i) n s = eqb (pn2 s) (pn2 (s + n - 1)) && eqb (pieceOf (F .layout) s) (pieceOf (F .layout) (s + n - 1))
+    saysOne (table t) n s =
+        ltb 0 (F .layout .fields) && (eqb (s / F .layout .fields) ((s + n - 1) / F .layout .fields) && allOne (peek F m t (pn1 (F .layout) s)))
+    saysOne invalid n s = true
+
+    -- so the n pages from s are of one permission once the edit is whole
+    unfoldable pub alike : Entry → ℕ → ℕ → Bool
+    alike e n s = ltb 0 n && (covers q n s || (misses q n s && saysOne e n s))
+
+    -- every page of such an L1 entry reads one field
+    fields-one : (w k : ℕ) → 0 < F .layout .fields → allOne w ≡ true → fieldOf (F .layout) w (pn0 (F .layout) k) ≡ (if ltb (w % 16) 4 then perm (w % 16) else faults)
+    unfolding allOne fieldOf pn0
+    fields-one w k l h =
+        ap (λ (d : ℕ). if ltb d 4 then perm d else faults) (digit-one 16 w (F .layout .fields) (k % F .layout .fields) (omega arith) (eqb-true _ _ h) (mod-lt k l))
+
+    says-one : (e : Entry) (n s k : ℕ) → saysOne e n s ≡ true → s ≤ k → k < s + n → says e k ≡ says e s
+    unfolding saysOne says
+    says-one (flat x) n s k h lo hi = refl
+    says-one (pieces i) n s k h lo hi =
+        let both = and-true _ _ h in
+        ap (λ (j : ℕ). digit 4 i j) (one-piece s (s + n - 1) k (eqb-true _ _ (both .0)) (eqb-true _ _ (both .1)) lo (omega arith))
+    says-one (table t) n s k h lo hi =
+        let some = and-true (ltb 0 (F .layout .fields)) _ h in
+        let l = ltb-true 0 (F .layout .fields) (some .0) in
+        let both = and-true (eqb (s / F .layout .fields) ((s + n - 1) / F .layout .fields)) _ (some .1) in
+        let w : ℕ = peek F m t (pn1 (F .layout) s) in
+        ap (λ (x : Found). if lent F t then permOf x else 0)
+        (ap (λ (i : ℕ). fieldOf (F .layout) (peek F m t i) (pn0 (F .layout) k)) (one-entry s (s + n - 1) k l (eqb-true _ _ (both .0)) lo (omega arith))
+        ∙ fields-one w k l (both .1)
+        ∙ sym (fields-one w s l (both .1)))
+    says-one invalid n s k h lo hi = refl
+
+    pub after-alike : (e : Entry) (n s k : ℕ) → (covers q n s || (misses q n s && saysOne e n s)) ≡ true → s ≤ k → k < s + n → afterIn F m q e k ≡ afterIn F m q e s
+    after-alike e n s k h lo hi =
+        split (covers q n s)
+        (λ c. after-inside e k (covered q n s k c lo hi) ∙ sym (after-inside e s (covered q n s s c (omega arith) (omega arith))))
+        (λ c. let both = and-true (misses q n s) (saysOne e n s) (or-left _ _ h c) in
+        after-outside e k (missed q n s k (both .0) lo hi)
+        ∙ says-one e n s k (both .1) lo hi
+        ∙ sym (after-outside e s (missed q n s s (both .0) (omega arith) (omega arith))))
+
+    -- the n pages from s are of permission p: told by the first, or else by halves, d times at the most
+    unfoldable pub runIs : ℕ → Entry → ℕ → ℕ → ℕ → Bool
+    runIs zero e p n s = allAre F m q e p n s
+    runIs (suc d) e p n s =
+        elim (alike e n s) [
+          | true ↦ eqb (quickAfter e s) p
+          | false ↦ elim (runIs d e p (n / 2) s) [ true ↦ runIs d e p (n - n / 2) (s + n / 2) | false ↦ false ]
+        ]
 
     abbrev is : Entry → ℕ → ℕ → Bool
     is e p k = eqb (afterIn F m q e k) p
 
-    unmet-same : (e : Entry) (p n s : ℕ) → 0 < n → ((k : ℕ) → s ≤ k → k < s + n → inRange q k ≡ false) → allAre F m q e p n s ≡ unmet e p n s
-    unfolding allAre unmet found permOf
-    unmet-same (flat x) p n s l h =
-        every-constant (is (flat x) p) (eqb x p) n s l (λ k lo hi. ap (λ (y : ℕ). eqb y p) (after-outside (flat x) k (h k lo hi)))
-    unmet-same (pieces i) p n s l h =
-        split (eqb (pn2 s) (pn2 (s + n - 1)) && eqb (pieceOf (F .layout) s) (pieceOf (F .layout) (s + n - 1)))
-        (λ z. let both = and-true _ _ z in
-        rw z
-        (every-constant (is (pieces i) p) (eqb (digit 4 i (pieceOf (F .layout) s)) p) n s l
-        (λ k lo hi. ap (λ (y : ℕ). eqb y p)
-        (after-outside (pieces i) k (h k lo hi)
-        ∙ ap (λ (j : ℕ). digit 4 i j) (one-piece s (s + n - 1) k (eqb-true _ _ (both .0)) (eqb-true _ _ (both .1)) lo (omega arith))))))
-        (λ z. rw z refl)
-    unmet-same (table t) p n s l h = refl
-    unmet-same invalid p n s l h = refl
-
-    pub run-same : (e : Entry) (p n s : ℕ) → allAre F m q e p n s ≡ runIs e p n s
-    unfolding allAre runIs every
-    run-same e p zero s = refl
-    run-same e p (suc n) s =
-        split (covers q (suc n) s)
-        (λ c. rw c (every-constant (is e p) (eqb (q .permission) p) (suc n) s (omega arith)
-        (λ k lo hi. ap (λ (y : ℕ). eqb y p) (after-inside e k (covered q (suc n) s k c lo hi)))))
-        (λ c. split (misses q (suc n) s)
-        (λ d. rw (c, d) (unmet-same e p (suc n) s (omega arith) (λ k lo hi. missed q (suc n) s k d lo hi)))
-        (λ d. rw (c, d) refl))
+    pub run-same : (d : ℕ) (e : Entry) (p n s : ℕ) → allAre F m q e p n s ≡ runIs d e p n s
+    unfolding allAre runIs alike
+    run-same zero e p n s = refl
+    run-same (suc d) e p n s =
+        by-test (alike e n s)
+        (λ z. let both = and-true (ltb 0 n) _ z in
+        every-constant (is e p) (eqb (quickAfter e s) p) n s (ltb-true 0 n (both .0))
+        (λ k lo hi. ap (λ (y : ℕ). eqb y p) (after-alike e n s k (both .1) lo hi ∙ after-quick e s)))
+        (λ z. let sum : n / 2 + (n - n / 2) ≡ n = omega arith in
+        sym (ap (λ (k : ℕ). every (is e p) k s) sum)
+        ∙ every-split (is e p) (n / 2) (n - n / 2) s
+        ∙ ap₂ (λ (a b : Bool). a && b) (run-same d e p (n / 2) s) (run-same d e p (n - n / 2) (s + n / 2))
+        ∙ sym (elim-and (runIs d e p (n / 2) s) (runIs d e p (n - n / 2) (s + n / 2))))
 
 -- ---- the finished form by any such test
 
@@ -153,15 +215,19 @@ module _ (F : Frame) (m : List ℕ) (q : Request) (root : ℕ) where
   same-of (suc n) g =
       ap₂ (λ (x y : List Form). x ++ y) (same-in (gibIsOne F m q root g (gibFirst F m q root g)) (gibFirst F m q root g) gibBlocks (g * gibBlocks)) (same-of n (suc g))
 
+  -- a block halved nine times is the 16 pages of one L1 entry; once more, for an entry that the range meets
+  abbrev pub halvings : ℕ
+  halvings = 10
+
   -- the finished forms, by runs of pages
   unfoldable pub quickForms : 0 < piecePages (F .layout) → List Form
-  quickForms pos = formsBy F m q root (runIs F pos m q) (gibs q) (firstGib q)
+  quickForms pos = formsBy F m q root (runIs F pos m q halvings) (gibs q) (firstGib q)
 
   pub forms-quick : (pos : 0 < piecePages (F .layout)) → forms F m q root ≡ quickForms pos
   unfolding forms quickForms
   forms-quick pos =
       same-of (gibs q) (firstGib q)
-      ∙ ap (λ (t : Test). formsBy F m q root t (gibs q) (firstGib q)) (fun-ext λ e. fun-ext λ p. fun-ext λ n. fun-ext λ s. run-same F pos m q e p n s)
+      ∙ ap (λ (t : Test). formsBy F m q root t (gibs q) (firstGib q)) (fun-ext λ e. fun-ext λ p. fun-ext λ n. fun-ext λ s. run-same F pos m q halvings e p n s)
 
 -- an edit, with its finished forms computed so
 pub edit-quick : (F : Frame) (pos : 0 < piecePages (F .layout)) (m : List ℕ) (slots : List Slot) (q : Request) (limit : ℕ)
