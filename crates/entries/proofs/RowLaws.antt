@@ -9,13 +9,14 @@ use lib.ListN.{length, getD, length-set}
 use lib.Seq.{getD-set-other}
 use borrow.Author.Tests.{eqb-true, eqb-false}
 use Rattle.entries.specs.Run.{Out, whole, cut, out, run}
-use Rattle.entries.specs.Rows.{changeAt, rowStores, fillStores}
+use Rattle.entries.specs.Rows.{changeAt, rowStores, fillStores, differs}
 use Rattle.entries.specs.declared.Budget.{Budget}
-use Rattle.laws.proofs.Choices.{split}
-use Rattle.model.specs.Numbers.{if_then_else_, joined}
+use Rattle.laws.proofs.Choices.{split, not-true-false}
+use Rattle.laws.proofs.Every.{every-in}
+use Rattle.model.specs.Numbers.{if_then_else_, joined, every}
 use Rattle.model.specs.Stores.{Store, apply}
 use Rattle.table.specs.Stored.{storeOf}
-use Rattle.entries.proofs.Joined.{joined-append}
+use Rattle.entries.proofs.Joined.{joined-append, joined-cong}
 use Rattle.entries.proofs.Runs.{run-none, run-on, run-off, run-whole}
 
 -- a store of one word, or none, keeps the length and every other word
@@ -34,9 +35,6 @@ one-more test at i h here k lo hi =
     split (eqb k (at + i))
     (λ z. subst test (sym (eqb-true k (at + i) z)) here)
     (λ z. h k lo (let ne = eqb-false k (at + i) z in omega arith))
-
-change-few : (m : List ℕ) (to : ℕ → ℕ) (k : ℕ) → length (changeAt m to k) ≤ 1
-change-few m to k = split (eqb (getD m k 0) (to (getD m k 0))) (λ z. rw z (omega arith)) (λ z. rw z (omega arith))
 
 module _ (to : ℕ → ℕ) (m0 : List ℕ) (left : Budget) (at : ℕ) where
   pub record InRow (m : List ℕ) (more : Budget) (i : ℕ) : Type 0 where
@@ -72,10 +70,6 @@ module _ (to : ℕ → ℕ) (m0 : List ℕ) (left : Budget) (at : ℕ) where
           done = sym z ∙ row-said;
         }
 
-    -- where the limit allows for the whole row, the stores that are left are as many as are not made yet
-    pub row-left : {l : Budget} {m′ : List ℕ} → o ≡ whole l m′ → more .more ≤ l .more + 1
-    row-left {l} {m′} z = omega (arith, run-whole more (changeAt m0 to (at + i)) m l m′ (sym step ∙ z) .0, change-few m0 to (at + i))
-
     -- a row that is cut is cut whatever was to follow
     pub row-cut : {m′ : List ℕ} → o ≡ cut m′ → (n : ℕ) → i < n → o ≡ run left (rowStores m0 to n at) m0
     row-cut z n h =
@@ -108,6 +102,10 @@ module _ (word : ℕ) (m0 : List ℕ) (left : Budget) (at : ℕ) where
             ∙ sym (ap (λ (x : List Store). run left x m0) (joined-append (λ j. storeOf j word ∷ []) i 1 at));
         count = omega (arith, k .0, s .count);
       }
+
+-- a row of words that all change is stored whole
+pub row-fills : (m : List ℕ) (word n at : ℕ) → every (differs m word) n at ≡ true → rowStores m (λ w. word) n at ≡ fillStores word n at
+row-fills m word n at h = joined-cong (changeAt m (λ w. word)) (λ k. storeOf k word ∷ []) n at (λ k lo hi. rw (not-true-false (eqb (getD m k 0) word) (every-in (differs m word) n at h k lo hi)))
 
 -- a row of no entries changes nothing
 pub row-none : (to : ℕ → ℕ) (m0 : List ℕ) (left : Budget) (at n : ℕ) → n ≡ 0 → (all : Bool) (l : Budget) (m : List ℕ) → out all l m ≡ run left (rowStores m0 to n at) m0 → m ≡ m0

@@ -1,4 +1,5 @@
 -- Rows of neighbouring words: each stored if it changes, or all stored.
+use mathlib.Core.Bool.{Bool, not}
 use mathlib.Core.List.{List, [], _∷_}
 use Prim.Native.Nat.{ℕ, _+_, _*_}
 use lib.Dec.{eqb}
@@ -19,6 +20,10 @@ rowStores m to n at = joined (changeAt m to) n at
 -- those of n words from at that are all stored
 abbrev pub fillStores : ℕ → ℕ → ℕ → List stores.Store
 fillStores word n at = joined (λ k. storeOf k word ∷ []) n at
+
+-- word k is another than this one
+abbrev pub differs : List ℕ → ℕ → ℕ → Bool
+differs m word k = not (eqb (getD m k 0) word)
 
 -- the TYPE 6 entry that says the same as an entry without an L1 page; zero for any other
 abbrev pub piecesOf : entry.Entry → ℕ

@@ -9,19 +9,9 @@ use table::word::decode;
 ghost use mathlib.Core.Path.{_≡_};
 ghost use Prim.Native.Nat.{ℕ, _+_, _≤_, _<_};
 ghost use lib.ListN.{length, getD};
+ghost use Rattle.model.specs.Numbers.{every};
 ghost use Rattle.entries.specs.Run.{whole, out, run};
-ghost use Rattle.entries.specs.Rows.{changeAt, rowStores, fillStores, piecesWord};
-
-// A store, if it changes the word, where one more may be made.
-fn put_free(words: &mut [u64], left: Budget, at: usize, word: u64) -> Budget
-    requires { ⌜ (at < length (now words)) × (0 < left .more) ⌝ }
-    ensures { λ r. ⌜ whole r (now (words .exit)) ≡ run left (changeAt (now (words .entry)) (λ w. word) at) (now (words .entry)) ⌝ }
-{
-    if words[at] == word {
-        return left;
-    }
-    put_next(words, left, at, word)
-}
+ghost use Rattle.entries.specs.Rows.{rowStores, fillStores, differs, piecesWord};
 
 // The n words from at, where as many stores may be made: nothing is asked between them.
 pub fn fill(words: &mut [u64], at: usize, n: usize, word: u64, left: Budget) -> Budget
@@ -35,16 +25,16 @@ pub fn fill(words: &mut [u64], at: usize, n: usize, word: u64, left: Budget) -> 
     rest
 }
 
-// The 32 words from at are all to be this word, and the limit allows for them: the entries of a GiB, whose number the compiler knows.
-fn flat_gib(words: &mut [u64], at: usize, word: u64, left: Budget) -> Budget
-    requires { ⌜ (at + 32 ≤ length (now words)) × (32 ≤ left .more) ⌝ }
-    ensures { λ r. ⌜ whole r (now (words .exit)) ≡ run left (rowStores (now (words .entry)) (λ w. word) 32 at) (now (words .entry)) ⌝ }
+// Each of the 32 words from at is another than this one. All are read, with no question between them.
+fn all_differ(words: &[u64], at: usize, word: u64) -> bool
+    requires { ⌜ at + 32 ≤ length (now words) ⌝ }
+    ensures { λ r. ⌜ r ≡ every (differs (now (words .entry)) word) 32 at ⌝ }
 {
-    let mut rest = left;
+    let mut differ = true;
     for i in 0..32usize {
-        rest = put_free(words, rest, at + i, word);
+        differ = differ & (words[at + i] != word);
     }
-    rest
+    differ
 }
 
 // The n words from at are all to be this word.
@@ -67,7 +57,7 @@ fn flat_row(words: &mut [u64], at: usize, n: usize, word: u64, left: Budget) -> 
     }
 }
 
-// The same, by the quicker way where it fits.
+// The same. The 32 entries of a GiB, where all change and the limit allows for them, are filled.
 pub fn flat_entries(words: &mut [u64], at: usize, n: usize, word: u64, left: Budget) -> Went
     requires { ⌜ at + n ≤ length (now words) ⌝ }
     ensures { λ r. ⌜ out (r .all) (r .left) (now (words .exit)) ≡ run left (rowStores (now (words .entry)) (λ w. word) n at) (now (words .entry)) ⌝ }
@@ -78,7 +68,10 @@ pub fn flat_entries(words: &mut [u64], at: usize, n: usize, word: u64, left: Bud
     if left.more < 32 {
         return flat_row(words, at, n, word, left);
     }
-    let rest = flat_gib(words, at, word, left);
+    if !all_differ(words, at, word) {
+        return flat_row(words, at, n, word, left);
+    }
+    let rest = fill(words, at, 32, word, left);
     Went {
         left: rest,
         all: true,

@@ -18,6 +18,10 @@ pub and-assoc : (a b c : Bool) → ((a && b) && c) ≡ (a && (b && c))
 and-assoc true b c = refl
 and-assoc false b c = refl
 
+pub and-alone : (a : Bool) → (a && true) ≡ a
+and-alone true = refl
+and-alone false = refl
+
 pub not-true-false : (a : Bool) → not a ≡ true → a ≡ false
 not-true-false true h = absurd (false≢true h)
 not-true-false false h = refl

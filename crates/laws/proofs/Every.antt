@@ -5,7 +5,7 @@ use Prim.Native.Nat.{ℕ, zero, suc, _+_, _-_, _≤_, _<_, zero-le, suc-le-suc}
 use native.Mathlib.Nat.{le-of-suc-le-suc, not-suc-le-zero, add-zero, zero-add}
 use native.Mathlib.Omega.{arith}
 use Rattle.model.specs.Numbers.{every}
-use Rattle.laws.proofs.Choices.{and-true, and-both, and-assoc, elim-and}
+use Rattle.laws.proofs.Choices.{and-true, and-both, and-assoc, and-alone, elim-and}
 
 pub every-step : (test : ℕ → Bool) (n s : ℕ) → every test (suc n) s ≡ (test s && every test n (suc s))
 unfolding every
@@ -60,3 +60,8 @@ every-split test (suc a) n s =
     ∙ ap (λ (x : Bool). test s && x) (every-split test a n (suc s))
     ∙ sym (and-assoc (test s) (every test a (suc s)) (every test n (suc s + a)))
     ∙ sym (ap (λ (x : Bool). x && every test n (suc s + a)) (every-step test a s)))
+
+-- one number more, at the end
+pub every-next-last : (test : ℕ → Bool) (n s : ℕ) → every test (n + 1) s ≡ (every test n s && test (s + n))
+unfolding every
+every-next-last test n s = every-split test n 1 s ∙ ap (λ (b : Bool). every test n s && b) (every-step test 0 (s + n) ∙ and-alone (test (s + n)))

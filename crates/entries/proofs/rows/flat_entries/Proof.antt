@@ -1,9 +1,14 @@
-use mathlib.Core.Path.{_≡_, ap, _∙_}
+-- `entries::rows::flat_entries` meets its contract: where all entries change, those that change are all.
+use mathlib.Core.Path.{_≡_, sym, ap, _∙_}
+use mathlib.Core.List.{List}
 use Prim.Native.Nat.{ℕ}
 use native.Mathlib.Omega.{arith}
+use borrow.Author.Tests.{not-false}
+use borrow.Author.Needs.{needs}
+use Rattle.model.specs.Stores.{Store}
 use Rattle.entries.specs.Run.{run}
 use Rattle.entries.specs.Rows.{rowStores}
-use borrow.Author.Needs.{needs}
+use Rattle.entries.proofs.RowLaws.{row-fills}
 use Rattle.entries.proofs.rows.flat_entries.Statement.{statement}
 use Rattle.entries.proofs.rows.flat_entries.Tie as tie
 
@@ -25,17 +30,34 @@ same-length-2 c = search needs
 returns-2 : tie.Need-returns-2
 returns-2 c = search needs
 
-flat-gib-requires : tie.Need-flat-gib-requires
-flat-gib-requires c κs = search needs
+all-differ-requires : tie.Need-all-differ-requires
+all-differ-requires c κs = search needs
+
+flat-row-requires-3 : tie.Need-flat-row-requires-3
+flat-row-requires-3 c κs = search needs
 
 same-length-3 : tie.Need-same-length-3
 same-length-3 c = search needs
 
 returns-3 : tie.Need-returns-3
-returns-3 c =
-    let a = c .before .before .before .before .before .before .before .before .args in
+returns-3 c = search needs
+
+fill-requires : tie.Need-fill-requires
+fill-requires c κs = search needs
+
+same-length-4 : tie.Need-same-length-4
+same-length-4 c = search needs
+
+returns-4 : tie.Need-returns-4
+returns-4 c =
+    let k = c .before .before in
+    let e = k .before .before in
+    let a = e .before .before .before .before .before .before .before .args in
+    let m = a .words .now in
     let z : 32 ≡ a .n = omega arith in
-    c .before .before .flat-gib .ensures ∙ ap (λ (k : ℕ). run (a .left) (rowStores (a .words .now) (λ w. a .word) k (a .at)) (a .words .now)) z
+    k .fill .ensures
+    ∙ ap (λ (l : List Store). run (a .left) l m) (sym (row-fills m (a .word) 32 (a .at) (sym (e .before .all-differ .ensures) ∙ not-false _ (e .if3 .left))))
+    ∙ ap (λ (n : ℕ). run (a .left) (rowStores m (λ w. a .word) n (a .at)) m) z
 
 pub flat-entries-spec : {M : Type 1} → statement M
 flat-entries-spec =
@@ -47,6 +69,10 @@ flat-entries-spec =
     flat-row-requires-2
     same-length-2
     returns-2
-    flat-gib-requires
+    all-differ-requires
+    flat-row-requires-3
     same-length-3
-    returns-3)
+    returns-3
+    fill-requires
+    same-length-4
+    returns-4)
