@@ -36,7 +36,7 @@ use Rattle.theory.proofs.Steps.{root-lent as page-lent}
 use Rattle.theory.proofs.Tables.{Sound}
 use Rattle.theory.proofs.Used.{pagesOf, links, used-measure}
 use Rattle.theory.proofs.WholeCall.{Edit, ok-of, sound-of, here-of}
-use Rattle.entries.proofs.Joined.{joined-cong}
+use Rattle.laws.proofs.Lists.{joined-cong}
 use Rattle.entries.proofs.Places.{changed-same, l1-plain}
 use Rattle.table.specs.declared.Frame as code
 

@@ -1,11 +1,9 @@
 --   Runs          making a list of stores up to a limit
---   Joined        lists of stores, place by place
 --   RowLaws       a row of entries, word by word
 --   Places        one word of a page: the store into it
 --   OwnPage       a block with an L1 page of its own
 --   NewPage       a block that gets a new L1 page
 pub mod Runs
-pub mod Joined
 pub mod RowLaws
 pub mod Places
 pub mod OwnPage

@@ -20,7 +20,7 @@ use Rattle.model.specs.Numbers.{joined}
 use Rattle.model.specs.Stores.{Store, storeAt, newTable}
 use Rattle.table.specs.Views.{frameOf}
 use Rattle.theory.specs.Rooted.{Good}
-use Rattle.entries.proofs.Joined.{joined-append, joined-cong}
+use Rattle.laws.proofs.Lists.{joined-append, joined-cong}
 use Rattle.entries.proofs.Places.{Put, frame-same, index-next, l1-plain, put-one, store-at, lent-same, good-same}
 use Rattle.table.specs.declared.Frame as code
 

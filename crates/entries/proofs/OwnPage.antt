@@ -21,7 +21,7 @@ use Rattle.model.specs.Numbers.{joined}
 use Rattle.model.specs.Stores.{Store, ifChanged, sameTable}
 use Rattle.table.specs.Views.{frameOf}
 use Rattle.theory.specs.Rooted.{Good}
-use Rattle.entries.proofs.Joined.{joined-none, joined-skip}
+use Rattle.laws.proofs.Lists.{joined-none, joined-skip}
 use Rattle.entries.proofs.Places.{Put, changed-same, frame-same, l1-clean, put-changed}
 use Rattle.table.specs.declared.Frame as code
 

@@ -16,7 +16,7 @@ use Rattle.laws.proofs.Every.{every-in}
 use Rattle.model.specs.Numbers.{if_then_else_, joined, every}
 use Rattle.model.specs.Stores.{Store, apply}
 use Rattle.table.specs.Stored.{storeOf}
-use Rattle.entries.proofs.Joined.{joined-append, joined-cong}
+use Rattle.laws.proofs.Lists.{joined-append, joined-cong}
 use Rattle.entries.proofs.Runs.{run-none, run-on, run-off, run-whole}
 
 -- a store of one word, or none, keeps the length and every other word

@@ -45,6 +45,14 @@ pub elim-and : (a b : Bool) → (elim a as (λ x. Bool) [ true ↦ b | false ↦
 elim-and true b = refl
 elim-and false b = refl
 
+pub elim-or : (a b : Bool) → (elim a as (λ x. Bool) [ true ↦ true | false ↦ b ]) ≡ (a || b)
+elim-or true b = refl
+elim-or false b = refl
+
+pub elim-not : (a b : Bool) → (elim a as (λ x. Bool) [ true ↦ false | false ↦ b ]) ≡ (not a && b)
+elim-not true b = refl
+elim-not false b = refl
+
 pub or-false : (a b : Bool) → (a || b) ≡ false → (a ≡ false) × (b ≡ false)
 or-false true b h = absurd (true≢false h)
 or-false false b h = (refl, h)

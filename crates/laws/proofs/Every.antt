@@ -4,6 +4,7 @@ use mathlib.Core.Bool.{Bool, true, false, _&&_}
 use Prim.Native.Nat.{ℕ, zero, suc, _+_, _-_, _≤_, _<_, zero-le, suc-le-suc}
 use native.Mathlib.Nat.{le-of-suc-le-suc, not-suc-le-zero, add-zero, zero-add}
 use native.Mathlib.Omega.{arith}
+use native.Mathlib.Numerals.{add-one}
 use Rattle.model.specs.Numbers.{every}
 use Rattle.laws.proofs.Choices.{and-true, and-both, and-assoc, and-alone, elim-and}
 
@@ -65,3 +66,21 @@ every-split test (suc a) n s =
 pub every-next-last : (test : ℕ → Bool) (n s : ℕ) → every test (n + 1) s ≡ (every test n s && test (s + n))
 unfolding every
 every-next-last test n s = every-split test n 1 s ∙ ap (λ (b : Bool). every test n s && b) (every-step test 0 (s + n) ∙ and-alone (test (s + n)))
+
+-- what is left of a run at i, by its next number
+pub every-next : (test : ℕ → Bool) (n i : ℕ) → i < n → every test (n - i) i ≡ (test i && every test (n - (i + 1)) (i + 1))
+every-next test n i h =
+    let e : n - i ≡ suc (n - (i + 1)) = omega arith in
+    ap (λ (k : ℕ). every test k i) e
+    ∙ every-step test (n - (i + 1)) i
+    ∙ ap (λ (k : ℕ). test i && every test (n - (i + 1)) k) (sym (add-one i))
+
+pub every-none : (test : ℕ → Bool) (n i : ℕ) → n ≤ i → every test (n - i) i ≡ true
+unfolding every
+every-none test n i h = let e : n - i ≡ 0 = omega arith in ap (λ (k : ℕ). every test k i) e
+
+pub every-shift : (test : ℕ → Bool) (n s : ℕ) → every test n (suc s) ≡ every (λ i. test (suc i)) n s
+unfolding every
+every-shift test zero s = refl
+every-shift test (suc n) s =
+    every-step test n (suc s) ∙ ap (λ (b : Bool). test (suc s) && b) (every-shift test n (suc s)) ∙ sym (every-step (λ i. test (suc i)) n s)

@@ -2,6 +2,7 @@
 --
 --   Choices    tests: by cases, and what a true or false `&&`, `||`, `not` says
 --   Every      `every`, the test over a run of numbers: its steps, what it gives, what gives it
+--   Lists      `each`, `member`, `distinct` and `joined`, one step at a time
 --   Times      how often a number stands in a list; `member`, `distinct` and `each` by it
 --   Sums       sums over a run of numbers and over a list, and what one change does to them
 --   Digits     `digit` and `pack`: what is packed is read back
@@ -10,6 +11,7 @@
 --   PageRuns   the finished form by runs of pages and not page by page: the same, and quick
 pub mod Choices
 pub mod Every
+pub mod Lists
 pub mod Times
 pub mod Sums
 pub mod Digits

@@ -10,7 +10,8 @@ use lib.Dec.{eqb, ltb}
 use lib.ListN.{length}
 use borrow.Author.Tests.{eqb-true, eq-eqb, ne-eqb, ltb-true, ltb-false}
 use Rattle.model.specs.Numbers.{if_then_else_, each, member, distinct}
-use Rattle.laws.proofs.Choices.{split, and-true, and-both, not-true-false, elim-and}
+use Rattle.laws.proofs.Choices.{split, and-true, and-both, not-true-false}
+use Rattle.laws.proofs.Lists.{each-step, member-step, distinct-step}
 
 unfoldable pub times : ℕ → List ℕ → ℕ
 times x [] = 0
@@ -43,26 +44,6 @@ times-single x y h =
     split (eqb x y) (eqb-true x y) (λ e. absurd (not-suc-le-zero (subst (λ (b : Bool). 0 < (if b then 1 else 0) + 0) e h)))
 
 -- ---- member, distinct and each, by times
-
-elim-or : (a b : Bool) → (elim a as (λ x. Bool) [ true ↦ true | false ↦ b ]) ≡ (a || b)
-elim-or true b = refl
-elim-or false b = refl
-
-elim-not : (a b : Bool) → (elim a as (λ x. Bool) [ true ↦ false | false ↦ b ]) ≡ (not a && b)
-elim-not true b = refl
-elim-not false b = refl
-
-member-step : (x y : ℕ) (ys : List ℕ) → member x (y ∷ ys) ≡ (eqb x y || member x ys)
-unfolding member
-member-step x y ys = elim-or (eqb x y) (member x ys)
-
-distinct-step : (y : ℕ) (ys : List ℕ) → distinct (y ∷ ys) ≡ (not (member y ys) && distinct ys)
-unfolding distinct
-distinct-step y ys = elim-not (member y ys) (distinct ys)
-
-each-step : {A : Type 0} (test : A → Bool) (y : A) (ys : List A) → each test (y ∷ ys) ≡ (test y && each test ys)
-unfolding each
-each-step test y ys = elim-and (test y) (each test ys)
 
 pub member-none : (x : ℕ) (ys : List ℕ) → times x ys ≡ 0 → member x ys ≡ false
 unfolding member times

@@ -13,7 +13,7 @@ use Rattle.model.specs.Numbers.{if_then_else_, member}
 use Rattle.model.specs.Layout.{rv64}
 use Rattle.model.specs.Register.{sdidOf}
 use Rattle.model.specs.Sound.{Slot, register, isOpen, openRegisters}
-use Rattle.table.proofs.Runs.{member-step}
+use Rattle.laws.proofs.Lists.{member-step}
 use Rattle.monitor.specs.Slots.{holds, openSdids}
 
 module _ (sdid : ℕ) where

@@ -10,7 +10,8 @@ use borrow.Author.Tests.{le-leb, lt-ltb}
 use Rattle.model.specs.Numbers.{if_then_else_, each, joined, member}
 use Rattle.model.specs.Frame.{Frame, lent}
 use Rattle.model.specs.Sound.{Slot, roots, used, soundSlots, soundTable, sound, freeOf, freePages}
-use Rattle.table.proofs.Runs.{both, each-step, each-append, joined-cong}
+use Rattle.laws.proofs.Choices.{and-true}
+use Rattle.laws.proofs.Lists.{each-step, each-append, joined-cong}
 use Rattle.sound.specs.Scan.{marksOf, refusedCheck, checkedOf}
 use Rattle.sound.specs.Free.{clearPages}
 use Rattle.sound.proofs.Pages.{used-lent, marked-member}
@@ -40,12 +41,12 @@ free-lent F used = joined-lent F _ (F .pages) (F .first) (λ page low high. go p
 pub head-lent : (F : Frame) (pages : List ℕ) → eqb (length pages) 0 ≡ false → each (lent F) pages ≡ true → lent F (headD pages 0) ≡ true
 unfolding headD
 head-lent F [] some h = absurd (true≢false some)
-head-lent F (page ∷ pages) some h = both (lent F page) (each (lent F) pages) (sym (each-step (lent F) page pages) ∙ h) .0
+head-lent F (page ∷ pages) some h = and-true (lent F page) (each (lent F) pages) (sym (each-step (lent F) page pages) ∙ h) .0
 
 pub tail-lent : (F : Frame) (pages : List ℕ) → each (lent F) pages ≡ true → each (lent F) (tail pages) ≡ true
 unfolding each
 tail-lent F [] h = refl
-tail-lent F (page ∷ pages) h = both (lent F page) (each (lent F) pages) (sym (each-step (lent F) page pages) ∙ h) .1
+tail-lent F (page ∷ pages) h = and-true (lent F page) (each (lent F) pages) (sym (each-step (lent F) page pages) ∙ h) .1
 
 -- ---- what the check says
 
@@ -65,7 +66,7 @@ module _ (F : Frame) (m : List ℕ) (slots : List Slot) where
 
     all-lent : each (lent F) (used F m (roots F slots)) ≡ true
     unfolding sound soundTable
-    all-lent = used-lent F m (roots F slots) (both _ _ (both (soundSlots F slots) _ ok .1) .0)
+    all-lent = used-lent F m (roots F slots) (and-true _ _ (and-true (soundSlots F slots) _ ok .1) .0)
 
     module _ (few : F .pages ≤ 256) where
       -- a lent page of a sound table is marked exactly when it is in use

@@ -9,7 +9,9 @@ use lib.ListN.{length, getD, set, replicate, length-set}
 use lib.Seq.{getD-set-same, getD-set-other}
 use borrow.Author.Tests.{eqb-true, eqb-false, ltb-true}
 use Rattle.model.specs.Numbers.{if_then_else_, every, joined, each, member, distinct}
-use Rattle.table.proofs.Runs.{both, and-assoc, every-step, each-step, member-step, distinct-step}
+use Rattle.laws.proofs.Choices.{and-true, and-assoc}
+use Rattle.laws.proofs.Every.{every-step}
+use Rattle.laws.proofs.Lists.{each-step, member-step, distinct-step}
 use Rattle.sound.specs.Scan.{Scan, unsound, marked, andThen, scanAll, scanRun, markOf}
 
 -- marks set one after the other, each of them not set before
@@ -126,7 +128,7 @@ module _ (n : ℕ) where
       ∙ ap₂ (λ (a b : Bool). if a && b then marked (setAll (set k i true) is) else unsound) (sym (each-step (fresh k) i is)) (sym (distinct-step i is))
     where
       rest : (ltb i n ≡ true) × (each (λ i. ltb i n) is ≡ true)
-      rest = both (ltb i n) (each (λ i. ltb i n) is) (sym (each-step (λ i. ltb i n) i is) ∙ h)
+      rest = and-true (ltb i n) (each (λ i. ltb i n) is) (sym (each-step (λ i. ltb i n) i is) ∙ h)
 
       low : i < length k
       low = omega (arith, ltb-true i n (rest .0))

@@ -13,7 +13,9 @@ use Rattle.model.specs.Entry.{Entry, flat, pieces, table, invalid}
 use Rattle.model.specs.Frame.{Frame, blocks, lent}
 use Rattle.model.specs.Walk.{rootPages, entryAt}
 use Rattle.model.specs.Sound.{linkOf, linksIn, used, cleanPage, soundEntry, soundRoot}
-use Rattle.table.proofs.Runs.{both, and-true, every-step, each-step, each-append, member-step, distinct-step}
+use Rattle.laws.proofs.Choices.{and-true, and-alone}
+use Rattle.laws.proofs.Every.{every-step}
+use Rattle.laws.proofs.Lists.{each-step, each-append, member-step, distinct-step}
 use Rattle.table.proofs.Frames.{lent-in}
 use Rattle.sound.specs.Scan.{markAll, marksOf}
 use Rattle.sound.proofs.Marks.{setAll, none-marked}
@@ -24,7 +26,7 @@ joined-each : (test guard : ℕ → Bool) (f : ℕ → List ℕ) → ((b : ℕ) 
 unfolding joined each
 joined-each test guard f law zero s h = refl
 joined-each test guard f law (suc n) s h =
-    let k = both (guard s) (every guard n (suc s)) (sym (every-step guard n s) ∙ h) in
+    let k = and-true (guard s) (every guard n (suc s)) (sym (every-step guard n s) ∙ h) in
     each-append test (f s) (joined f n (suc s)) ∙ ap₂ _&&_ (law s (k .0)) (joined-each test guard f law n (suc s) (k .1))
 
 module _ (F : Frame) where
@@ -39,15 +41,15 @@ module _ (F : Frame) where
     unfolding soundEntry linkOf each
     link-lent (flat p) h = refl
     link-lent (pieces info) h = refl
-    link-lent (table page) h = each-step (lent F) page [] ∙ and-true (lent F page) ∙ both (lent F page) (cleanPage F m page) h .0
+    link-lent (table page) h = each-step (lent F) page [] ∙ and-alone (lent F page) ∙ and-true (lent F page) (cleanPage F m page) h .0
     link-lent invalid h = refl
 
     pub used-lent : (rs : List ℕ) → each (soundRoot F m) rs ≡ true → each (lent F) (used F m rs) ≡ true
     unfolding each used soundRoot linksIn
     used-lent [] h = refl
     used-lent (root ∷ rs) h =
-        let k = both (soundRoot F m root) (each (soundRoot F m) rs) (sym (each-step (soundRoot F m) root rs) ∙ h) in
-        let r = both (each (lent F) (rootPages F root)) (every (λ b. soundEntry F m (entryAt F m root b)) (blocks F) 0) (k .0) in
+        let k = and-true (soundRoot F m root) (each (soundRoot F m) rs) (sym (each-step (soundRoot F m) root rs) ∙ h) in
+        let r = and-true (each (lent F) (rootPages F root)) (every (λ b. soundEntry F m (entryAt F m root b)) (blocks F) 0) (k .0) in
         each-append (lent F) (rootPages F root) _
         ∙ ap₂ _&&_ (r .0)
         (each-append (lent F) (linksIn F m root) (used F m rs)
@@ -68,7 +70,7 @@ module _ (F : Frame) where
   unfolding member each
   place-member p [] hp h = refl
   place-member p (q ∷ qs) hp h =
-      let k = both (lent F q) (each (lent F) qs) (sym (each-step (lent F) q qs) ∙ h) in
+      let k = and-true (lent F q) (each (lent F) qs) (sym (each-step (lent F) q qs) ∙ h) in
       member-step (place p) (place q) (map place qs)
       ∙ ap₂ _||_ (place-eqb p q hp (k .0)) (place-member p qs hp (k .1))
       ∙ sym (member-step p q qs)
@@ -77,7 +79,7 @@ module _ (F : Frame) where
   unfolding distinct each
   place-distinct [] h = refl
   place-distinct (p ∷ ps) h =
-      let k = both (lent F p) (each (lent F) ps) (sym (each-step (lent F) p ps) ∙ h) in
+      let k = and-true (lent F p) (each (lent F) ps) (sym (each-step (lent F) p ps) ∙ h) in
       distinct-step (place p) (map place ps)
       ∙ ap₂ _&&_ (ap not (place-member p ps (k .0) (k .1))) (place-distinct ps (k .1))
       ∙ sym (distinct-step p ps)
@@ -95,7 +97,7 @@ module _ (F : Frame) where
     unfolding each
     places-low [] h = refl
     places-low (p ∷ ps) h =
-        let k = both (lent F p) (each (lent F) ps) (sym (each-step (lent F) p ps) ∙ h) in
+        let k = and-true (lent F p) (each (lent F) ps) (sym (each-step (lent F) p ps) ∙ h) in
         each-step (λ i. ltb i 256) (place p) (map place ps) ∙ ap₂ _&&_ (lt-ltb (place p) 256 (place-low p (k .0))) (places-low ps (k .1))
 
     -- ---- the marks are those of the pages in use
@@ -124,7 +126,7 @@ module _ (F : Frame) where
     unfolding markAll member each
     marks-member p hp [] k e h = refl
     marks-member p hp (q ∷ qs) k e h =
-        let t = both (lent F q) (each (lent F) qs) (sym (each-step (lent F) q qs) ∙ h) in
+        let t = and-true (lent F q) (each (lent F) qs) (sym (each-step (lent F) q qs) ∙ h) in
         marks-member p hp qs (set k (place q) true) (length-set k (place q) true ∙ e) (t .1)
         ∙ ap (λ (b : Bool). member p qs || b) (mark-set p q k hp (t .0) e)
         ∙ or-move (eqb p q) (member p qs) (getD k (place p) false)

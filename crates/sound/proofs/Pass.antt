@@ -18,7 +18,7 @@ use Rattle.model.specs.Walk.{rootPages, entryAt}
 use Rattle.model.specs.Sound.{Slot, register, isOpen, openRegisters, linkOf, roots, sdids, linksIn, used, cleanPage, soundEntry, soundRegister, soundRoot, soundSlots, soundTable}
 use Rattle.table.specs.declared.Frame.{Frame}
 use Rattle.table.specs.Views.{frameOf}
-use Rattle.table.proofs.Runs.{each-step}
+use Rattle.laws.proofs.Lists.{each-step}
 use Rattle.table.proofs.Frames.{bounds}
 use Rattle.sound.specs.Scan.{Scan, unsound, marked, answer, andThen, scanAll, markOf, registerStep, claimOf, marksOf, linkStep, entryStep, blockStep, rootStep, slotStep}
 use Rattle.sound.proofs.Marks.{claimAll, then-unsound, then-marked, then-same, spread, all-claims, run-claims, setAll, claims}

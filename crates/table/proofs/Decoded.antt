@@ -6,7 +6,7 @@ use lib.Dec.{eqb}
 use borrow.Author.Tests.{lt-ltb, le-ltb, eq-eqb, ne-eqb, eqb-true}
 use Rattle.model.specs.Entry.{Entry, flat, pieces, table, invalid, decode, zeroOf, typeOf, infoOf}
 use Rattle.model.specs.Layout.{rv64}
-use Rattle.table.proofs.Runs.{split}
+use Rattle.laws.proofs.Choices.{split}
 
 module _ (w : ℕ) where
   pub flat-word : w / 2 ^ 44 < 4 → w % 2 ^ 44 ≡ 0 → flat (w / 2 ^ 44) ≡ decode rv64 w

@@ -10,7 +10,7 @@ use borrow.Author.Tests.{leb-true, ltb-true, eqb-true}
 use Rattle.model.specs.Entry.{decode}
 use Rattle.model.specs.Frame.{Frame, space, lent, boundsOk, frameOk, indexOf, wordAt}
 use Rattle.model.specs.Walk.{entryAt, entryPage, entryPlace, l2Word}
-use Rattle.table.proofs.Runs.{both}
+use Rattle.laws.proofs.Choices.{and-true}
 
 pub record Bounds (F : Frame) : Type 0 where
   pub paw-low : 30 ≤ F .paw
@@ -23,11 +23,11 @@ pub record Bounds (F : Frame) : Type 0 where
 pub bounds : (F : Frame) → boundsOk F ≡ true → Bounds F
 unfolding boundsOk space
 bounds F h =
-    let h5 = both _ _ h in
-    let h4 = both _ _ (h5 .0) in
-    let h3 = both _ _ (h4 .0) in
-    let h2 = both _ _ (h3 .0) in
-    let h1 = both _ _ (h2 .0) in
+    let h5 = and-true _ _ h in
+    let h4 = and-true _ _ (h5 .0) in
+    let h3 = and-true _ _ (h4 .0) in
+    let h2 = and-true _ _ (h3 .0) in
+    let h1 = and-true _ _ (h2 .0) in
     record {
       paw-low = leb-true _ _ (h1 .0);
       paw-high = leb-true _ _ (h1 .1);
@@ -40,12 +40,12 @@ bounds F h =
 -- a frame that is accepted is within its bounds, and its memory is whole pages
 pub framed : (F : Frame) (m : List ℕ) → frameOk F m ≡ true → (boundsOk F ≡ true) × (length m ≡ F .pages * F .layout .words)
 unfolding frameOk
-framed F m h = let k = both _ _ h in (k .0, eqb-true _ _ (k .1))
+framed F m h = let k = and-true _ _ h in (k .0, eqb-true _ _ (k .1))
 
 -- a lent page is one of the pages from the first
 pub lent-in : (F : Frame) (page : ℕ) → lent F page ≡ true → (F .first ≤ page) × (page < F .first + F .pages)
 unfolding lent
-lent-in F page h = let k = both _ _ h in (leb-true _ _ (k .0), ltb-true _ _ (k .1))
+lent-in F page h = let k = and-true _ _ h in (leb-true _ _ (k .0), ltb-true _ _ (k .1))
 
 -- entry i of a page stands i words after its start
 pub index-add : (F : Frame) (page i : ℕ) → indexOf F page 0 + i ≡ indexOf F page i

@@ -11,7 +11,8 @@ use borrow.Author.Tests.{eq-eqb, ne-eqb, eqb-true, eqb-false, lt-ltb, le-ltb}
 use Rattle.model.specs.Numbers.{every, digit}
 use Rattle.model.specs.Layout.{rv64}
 use Rattle.model.specs.Entry.{clean}
-use Rattle.table.proofs.Runs.{split, and-assoc, every-step, every-shift}
+use Rattle.laws.proofs.Choices.{split, and-assoc}
+use Rattle.laws.proofs.Every.{every-step, every-shift}
 
 -- the two high bits of each of 16 fields
 abbrev pub reserved : ℕ

@@ -10,7 +10,8 @@ use lib.ListN.{getD}
 use Rattle.model.specs.Numbers.{every}
 use Rattle.model.specs.Layout.{rv64}
 use Rattle.model.specs.Entry as entry
-use Rattle.table.proofs.Runs.{and-true, every-next, every-none}
+use Rattle.laws.proofs.Choices.{and-alone}
+use Rattle.laws.proofs.Every.{every-next, every-none}
 use Rattle.table.proofs.Reserved.{reserved, gathered}
 use Rattle.sound.proofs.clean.Statement.{statement}
 use Rattle.sound.proofs.clean.Tie as tie
@@ -59,7 +60,7 @@ returns c = let l = c .before in
     let h : 512 ≤ l .loop .i = omega arith in
     sym (l .loop .inv .1
     ∙ ap (λ (b : Bool). eqb (bitAnd (l .loop .all) reserved) 0 && b) (every-none (test (a .words .now) (a .at)) 512 (l .loop .i) h)
-    ∙ and-true (eqb (bitAnd (l .loop .all) reserved) 0))
+    ∙ and-alone (eqb (bitAnd (l .loop .all) reserved) 0))
 
 pub clean-spec : {M : Type 1} → statement M
 clean-spec =

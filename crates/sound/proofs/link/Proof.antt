@@ -5,7 +5,7 @@ use borrow.Author.Needs.{needs}
 use Rattle.model.specs.Layout.{rv64}
 use Rattle.model.specs.Entry as entry
 use Rattle.model.specs.Sound.{cleanPage}
-use Rattle.table.proofs.Runs.{every-cong}
+use Rattle.laws.proofs.Every.{every-cong}
 use Rattle.table.proofs.Frames.{word-at}
 use Rattle.sound.specs.Scan.{answer, linkStep}
 use Rattle.sound.proofs.Steps.{claimed-lent}
