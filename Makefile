@@ -16,11 +16,13 @@ run: command
 	@echo
 	@$(mpt) map examples/cradles.mpt
 
-# every crate is proved from nothing and its wrong versions are refused; wrong definitions are refused; the library's stores are traced; the
-# compiled monitor is held against the second program. What rt ci said last is said again at the end, if all else passed
+# every crate is proved from nothing and its wrong versions are refused, each by a fact; wrong definitions are refused; the library's stores
+# are traced; the compiled monitor is held against the second program. What rt ci said last is said again at the end, if all else passed.
+# rt ci waits for the last check of a batch, so a batch is of twice as many as there are cores
 test:
 	@tools/kit
-	@said=$$(mktemp); rt ci 2>&1 | tee "$$said" || { rm -f "$$said"; exit 1; }; mv "$$said" target/verdict
+	@said=$$(mktemp); RT_JOBS=$$((2 * $$(nproc))) rt ci 2>&1 | tee "$$said" || { rm -f "$$said"; exit 1; }; mv "$$said" target/verdict
+	@tests/versions/run >target/versions && tail -n 1 target/versions
 	@tests/definitions/run
 	@$(MAKE) --no-print-directory board host
 	@tail -n 1 target/verdict

@@ -1,10 +1,13 @@
 -- `lookup::in_table` meets its contract: the entry is that of pn[1], and the field that of pn[0].
-use mathlib.Core.Path.{sym, ap, _∙_}
+use mathlib.Core.Path.{sym, ap, ap₂, _∙_}
 use Prim.Native.Nat.{ℕ}
+use denote.Ref.{now}
 use borrow.Author.Needs.{needs}
 use Rattle.model.specs.Layout.{rv64}
 use Rattle.model.specs.Entry.{fieldOf}
+use Rattle.model.specs.Frame.{wordAt}
 use Rattle.model.specs.Walk.{found}
+use Rattle.table.specs.Views.{frameOf}
 use Rattle.table.proofs.Frames.{word-at}
 use Rattle.lookup.proofs.in_table.Statement.{statement}
 use Rattle.lookup.proofs.in_table.Tie as tie
@@ -39,8 +42,11 @@ returns c = let z = c .before in
     let o = z .before .before in
     let p = o .before in
     let b = p .before in
-    rw (sym (b .before .is-lent .ensures) ∙ b .if1 .taken, ← o .pn1 .ensures .0, ← z .pn0 .ensures .0)
-    (c .field-found .ensures ∙ ap (λ (w : ℕ). fieldOf rv64 w (z .pn0 .result)) (word-at _ _ _ _ _ (p .page-start .ensures .0)))
+    let a = b .before .before .before .args in
+    rw (sym (b .before .is-lent .ensures) ∙ b .if1 .taken)
+    (c .field-found .ensures
+    ∙ ap (λ (w : ℕ). fieldOf rv64 w (z .pn0 .result)) (word-at _ _ _ _ _ (p .page-start .ensures .0))
+    ∙ ap₂ (λ (i j : ℕ). fieldOf rv64 (wordAt (frameOf (a .f) (now (a .words))) (now (a .words)) (a .table .0) i) j) (o .pn1 .ensures .0) (z .pn0 .ensures .0))
 
 returns-2 : tie.Need-returns-2
 unfolding found
