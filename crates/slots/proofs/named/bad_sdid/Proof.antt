@@ -1,8 +1,8 @@
--- `monitor::slots::bad_sdid` meets its contract.
+-- `slots::named::bad_sdid` meets its contract.
 use borrow.Author.Tests.{lt-ltb, le-ltb}
 use borrow.Author.Needs.{needs}
-use Rattle.monitor.proofs.slots.bad_sdid.Statement.{statement}
-use Rattle.monitor.proofs.slots.bad_sdid.Tie as tie
+use Rattle.slots.proofs.named.bad_sdid.Statement.{statement}
+use Rattle.slots.proofs.named.bad_sdid.Tie as tie
 
 returns : tie.Need-returns
 returns c = rw (lt-ltb _ _ (c .if1 .taken))

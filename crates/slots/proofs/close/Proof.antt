@@ -1,4 +1,4 @@
--- `monitor::close` meets its contract: each return is one of the laws of `Refusals`, by the tests so far.
+-- `slots::close` meets its contract: each return is one of the laws of `Refusals`, by the tests so far.
 use mathlib.Core.Path.{_≡_, sym, ap, _∙_}
 use mathlib.Core.Bool.{true}
 use Prim.Native.Nat.{_<_}
@@ -13,10 +13,10 @@ use Rattle.table.specs.Views.{frameOf}
 use Rattle.table.proofs.Frames.{framed}
 use Rattle.sound.specs.declared.Checked.{Checked}
 use Rattle.sound.proofs.Laws.{says-sound}
-use Rattle.monitor.proofs.Refusals.{close-frame, close-unsound, close-slot, close-done}
-use Rattle.monitor.proofs.Sdids.{slot-low}
-use Rattle.monitor.proofs.close.Statement.{statement}
-use Rattle.monitor.proofs.close.Tie as tie
+use Rattle.slots.proofs.Refusals.{close-frame, close-unsound, close-slot, close-done}
+use Rattle.slots.proofs.Sdids.{slot-low}
+use Rattle.slots.proofs.close.Statement.{statement}
+use Rattle.slots.proofs.close.Tie as tie
 
 frame-passes : (c : tie.Else1) → let a = c .before .before .before .args in frameOk (frameOf (a .f) (now (a .words))) (now (a .words)) ≡ true
 frame-passes c = sym (c .before .frame-ok .ensures) ∙ not-false _ (c .if1 .left)
