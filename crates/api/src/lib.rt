@@ -23,7 +23,7 @@ ghost use mathlib.Core.List.{List};
 ghost use Prim.Native.Nat.{ℕ, _/_};
 ghost use lib.ListN.{length};
 ghost use Rattle.model.specs.Calls.{openSlot, closeSlot};
-ghost use Rattle.monitor.specs.Outcomes.{outcomeOf};
+ghost use Rattle.slots.specs.Outcomes.{outcomeOf};
 ghost use Rattle.api.specs.Codes.{privilegeAt, kindAt, permissionAt, openedWord, doneWord, frameIn, lookupWord, soundWord, editWord, editMemory};
 
 // A privilege, a kind of access and a permission by their codes, if they name one.

@@ -15,10 +15,10 @@ use Rattle.model.specs.Calls.{Outcome, edited, firstMet, registerFor, rootOf, r
 use Rattle.table.specs.Views.{fenceOf}
 use Rattle.edit.specs.declared.Made.{Made}
 use Rattle.edit.specs.Done.{IsMade}
-use Rattle.monitor.specs.Slots.{notOpen}
-use Rattle.monitor.specs.Outcomes.{outcomeOf}
-use Rattle.monitor.specs.declared.Outcome as code
-use Rattle.monitor.specs.declared.Reply.the-variants.{Edited}
+use Rattle.slots.specs.Named.{notOpen}
+use Rattle.slots.specs.Outcomes.{outcomeOf}
+use Rattle.slots.specs.declared.Outcome as code
+use Rattle.slots.specs.declared.Reply.the-variants.{Edited}
 
 module _ (F : Frame) (m : List ℕ) (slots : List Slot) (q : Request) where
   -- the whole edit needs more new pages than are free

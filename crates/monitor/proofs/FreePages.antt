@@ -3,9 +3,9 @@ use mathlib.Core.Path.{_≡_, refl, sym, _∙_}
 use mathlib.Core.List.{List, [], _∷_, headD}
 use Prim.Native.Nat.{ℕ, _≤_, min}
 use native.Mathlib.Omega.{arith}
-use lib.Dec.{eqb, ltb}
+use lib.Dec.{ltb}
 use lib.ListN.{length, take, length-take}
-use borrow.Author.Tests.{ne-eqb, ltb-true, ltb-false, lt-ltb, le-ltb}
+use borrow.Author.Tests.{ltb-true, ltb-false, lt-ltb, le-ltb}
 use Rattle.edit.specs.Kinds.{freeList}
 use Rattle.laws.proofs.Choices.{split}
 use Rattle.sound.specs.Free.{listed}
@@ -17,11 +17,7 @@ listed-front [] = refl
 listed-front (x ∷ []) = refl
 listed-front (x ∷ y ∷ rest) = refl
 
--- whether there is one, and whether there are as many as an edit may take, is seen from two
-pub listed-none : (pages : List ℕ) → eqb (listed pages .count) 0 ≡ eqb (length pages) 0
-listed-none [] = refl
-listed-none (x ∷ rest) = ne-eqb (listed (x ∷ rest) .count) 0 (λ e. omega (arith, e)) ∙ sym (ne-eqb (length (x ∷ rest)) 0 (λ e. omega (arith, e)))
-
+-- whether there are as many as an edit may take is seen from two
 pub listed-short : (pages : List ℕ) (n : ℕ) → n ≤ 2 → ltb (listed pages .count) n ≡ ltb (length pages) n
 listed-short pages n h =
     let two : listed pages .count ≡ min 2 (length pages) = length-take 2 pages in

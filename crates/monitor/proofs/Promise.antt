@@ -26,10 +26,10 @@ use Rattle.table.specs.declared.Frame.{Frame}
 use Rattle.table.specs.declared.Permission.{Permission}
 use Rattle.table.specs.declared.Permission.the-variants.{None, Rx, Rw, Rwx}
 use Rattle.table.specs.Views.{frameOf, frameOver, permissionNumber}
-use Rattle.monitor.specs.declared.Outcome.{Outcome}
-use Rattle.monitor.specs.declared.Reply.{Reply}
-use Rattle.monitor.specs.declared.Reply.the-variants.{Refused, Opened, Closed, Edited}
-use Rattle.monitor.specs.Outcomes.{replyOf}
+use Rattle.slots.specs.declared.Outcome.{Outcome}
+use Rattle.slots.specs.declared.Reply.{Reply}
+use Rattle.slots.specs.declared.Reply.the-variants.{Refused, Opened, Closed, Edited}
+use Rattle.slots.specs.Outcomes.{replyOf}
 use Rattle.monitor.specs.Promise.{After, Call, Ending, Kept, request, reset, returned}
 
 -- the parts of an answer

@@ -18,7 +18,7 @@ use Rattle.theory.proofs.Frames.{frame-ok}
 use Rattle.theory.proofs.Tables.{to-sound}
 use Rattle.theory.proofs.Domains.{open-domain, domain-root}
 use Rattle.theory.proofs.SoundRoots.{sound-rooted}
-use Rattle.monitor.specs.Slots.{notOpen}
+use Rattle.slots.specs.Named.{notOpen}
 
 pub rooted-slot : (f : Frame) (m : List ℕ) (slots : List Slot) (s : ℕ) → frameOk (frameOf f m) m ≡ true → sound (frameOf f m) m slots ≡ true → notOpen slots s ≡ false
     → Rooted (frameOf f m) m (ppnOf (frameOf f m .layout) (register (slotAt slots s)))

@@ -7,7 +7,7 @@ use Rattle.model.specs.Forms.{Request}
 use Rattle.model.specs.Frame.{Frame, frameOk}
 use Rattle.model.specs.Sound.{Slot, roots, sound, freePages}
 use Rattle.sound.specs.Free.{clearPages}
-use Rattle.monitor.specs.Slots.{notOpen}
+use Rattle.slots.specs.Named.{notOpen}
 
 abbrev pub asked : ℕ → ℕ → ℕ → ℕ → Request
 asked slot start length permission = record { slot = slot; start = start; size = length; permission = permission }

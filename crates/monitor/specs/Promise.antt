@@ -9,9 +9,9 @@ use Rattle.model.specs.Demands.{BeforeOrAfter, Done, SamePermissions, freeCount
 use Rattle.table.specs.declared.Frame.{Frame}
 use Rattle.table.specs.declared.Permission.{Permission}
 use Rattle.table.specs.Views.{frameOf, permissionNumber}
-use Rattle.monitor.specs.declared.Outcome.{Outcome}
-use Rattle.monitor.specs.declared.Reply.the-variants.{Edited}
-use Rattle.monitor.specs.Outcomes.{outcomeOf}
+use Rattle.slots.specs.declared.Outcome.{Outcome}
+use Rattle.slots.specs.declared.Reply.the-variants.{Edited}
+use Rattle.slots.specs.Outcomes.{outcomeOf}
 use Rattle.monitor.specs.Edits.{asked}
 
 -- how one call ends: it returns, or a watchdog resets the board after so many of its stores

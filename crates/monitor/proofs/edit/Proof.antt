@@ -15,7 +15,7 @@ use Rattle.table.proofs.Frames.{framed, bounds}
 use Rattle.sound.specs.declared.Checked.{Checked}
 use Rattle.sound.specs.Free.{clearPages}
 use Rattle.sound.proofs.Laws.{says-sound, checked-free}
-use Rattle.monitor.specs.Slots.{notOpen}
+use Rattle.slots.specs.Named.{notOpen}
 use Rattle.monitor.specs.Edits.{asked}
 use Rattle.monitor.proofs.EditRefusals.{edit-frame, edit-unsound, edit-slot}
 use Rattle.monitor.proofs.edit.Statement.{statement}

@@ -26,7 +26,7 @@ use Rattle.theory.specs.Rooted.{Rooted}
 use Rattle.monitor.specs.Edits.{InOpenSlot}
 use Rattle.monitor.proofs.EditRefusals.{noRoom, edit-range, edit-lent, edit-no-room, edit-accepted, edit-done, made-is}
 use Rattle.monitor.proofs.FreePages.{listed-front, listed-short}
-use Rattle.monitor.proofs.Sdids.{slot-low}
+use Rattle.slots.proofs.Sdids.{slot-low}
 use Rattle.monitor.proofs.SlotRoots.{rooted-slot}
 use Rattle.monitor.proofs.edit_open.Statement.{statement}
 use Rattle.monitor.proofs.edit_open.Tie as tie

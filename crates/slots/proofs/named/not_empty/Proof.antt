@@ -1,10 +1,10 @@
--- `monitor::slots::not_empty` meets its contract.
+-- `slots::named::not_empty` meets its contract.
 use borrow.Author.Tests.{lt-ltb, le-ltb}
 use borrow.Author.Needs.{needs}
 use Rattle.model.specs.Sound.{isOpen}
 use Rattle.model.specs.Calls.{slotAt}
-use Rattle.monitor.proofs.slots.not_empty.Statement.{statement}
-use Rattle.monitor.proofs.slots.not_empty.Tie as tie
+use Rattle.slots.proofs.named.not_empty.Statement.{statement}
+use Rattle.slots.proofs.named.not_empty.Tie as tie
 
 returns : tie.Need-returns
 returns c = rw (le-ltb _ _ (c .if1 .taken))

@@ -1,9 +1,9 @@
--- `monitor::slots::holds` meets its contract.
+-- `slots::named::holds` meets its contract.
 use borrow.Author.Tests.{eq-eqb, ne-eqb}
 use borrow.Author.Needs.{needs}
 use Rattle.model.specs.Sound.{isOpen}
-use Rattle.monitor.proofs.slots.holds.Statement.{statement}
-use Rattle.monitor.proofs.slots.holds.Tie as tie
+use Rattle.slots.proofs.named.holds.Statement.{statement}
+use Rattle.slots.proofs.named.holds.Tie as tie
 
 returns : tie.Need-returns
 unfolding isOpen

@@ -4,7 +4,7 @@ use table::store::store_word;
 ghost use mathlib.Core.Path.{_≡_};
 ghost use Prim.Native.Nat.{_+_, _≤_};
 ghost use lib.ListN.{length};
-ghost use Rattle.monitor.specs.Zeroed.{zeroed};
+ghost use Rattle.slots.specs.Zeroed.{zeroed};
 
 // The 512 words from at, one store each.
 pub fn zero_page(words: &mut [u64], at: usize)

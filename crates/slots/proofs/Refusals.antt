@@ -14,8 +14,8 @@ use Rattle.model.specs.Fence.{noFence, domainFence}
 use Rattle.model.specs.Calls.{opened, closed, firstMet, slotAt, refuse, openRefusal, openAt, openSlot, closeRefusal, closeSlot}
 use Rattle.table.specs.declared.Frame.{Frame}
 use Rattle.table.specs.Views.{frameOf}
-use Rattle.monitor.specs.Zeroed.{zeroed}
-use Rattle.monitor.specs.Slots.{notOpen, notEmpty, badSdid}
+use Rattle.slots.specs.Zeroed.{zeroed}
+use Rattle.slots.specs.Named.{notOpen, notEmpty, badSdid}
 
 module _ (f : Frame) (m : List ℕ) (slots : List Slot) (s : ℕ) where
   abbrev F : frame.Frame

@@ -1,12 +1,12 @@
--- `monitor::slots::not_open` meets its contract.
+-- `slots::named::not_open` meets its contract.
 use mathlib.Core.Path.{_≡_, refl}
 use mathlib.Core.Bool.{Bool, true, false, not}
 use borrow.Author.Tests.{lt-ltb, le-ltb}
 use borrow.Author.Needs.{needs}
 use Rattle.model.specs.Sound.{isOpen}
 use Rattle.model.specs.Calls.{slotAt}
-use Rattle.monitor.proofs.slots.not_open.Statement.{statement}
-use Rattle.monitor.proofs.slots.not_open.Tie as tie
+use Rattle.slots.proofs.named.not_open.Statement.{statement}
+use Rattle.slots.proofs.named.not_open.Tie as tie
 
 not-not : (b : Bool) → b ≡ not (not b)
 not-not true = refl

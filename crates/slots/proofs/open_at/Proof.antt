@@ -1,4 +1,4 @@
--- `monitor::open_at` meets its contract: the page is zeroed word by word, and the register is put together from its fields.
+-- `slots::open_at` meets its contract: the page is zeroed word by word, and the register is put together from its fields.
 use mathlib.Core.List.{List}
 use mathlib.Core.Path.{sym, ap, ap₂, _∙_}
 use Prim.Native.Nat.{ℕ}
@@ -9,10 +9,10 @@ use borrow.Author.Needs.{needs}
 use Rattle.model.specs.Fence.{noFence}
 use Rattle.model.specs.Calls as calls
 use Rattle.table.proofs.Frames.{bounds, lent-in, few-pages}
-use Rattle.monitor.specs.Zeroed.{zeroed}
-use Rattle.monitor.proofs.Refusals.{opened-at}
-use Rattle.monitor.proofs.open_at.Statement.{statement}
-use Rattle.monitor.proofs.open_at.Tie as tie
+use Rattle.slots.specs.Zeroed.{zeroed}
+use Rattle.slots.proofs.Refusals.{opened-at}
+use Rattle.slots.proofs.open_at.Statement.{statement}
+use Rattle.slots.proofs.open_at.Tie as tie
 
 page-start-requires : tie.Need-page-start-requires
 page-start-requires c κs = search needs

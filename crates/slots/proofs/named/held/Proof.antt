@@ -1,14 +1,14 @@
--- `monitor::slots::held` meets its contract: the invariant: the slots that are left decide whether one holds the SDID.
+-- `slots::named::held` meets its contract: the invariant: the slots that are left decide whether one holds the SDID.
 use mathlib.Core.Path.{_≡_, refl, sym, _∙_}
 use Prim.Native.Nat.{_-_, _≤_, _<_}
 use native.Mathlib.Omega.{arith}
 use lib.ListN.{length, drop}
 use borrow.Author.Needs.{needs}
 use Rattle.model.specs.Numbers.{member}
-use Rattle.monitor.specs.Slots.{openSdids}
-use Rattle.monitor.proofs.Sdids.{held-here, held-later, held-by-none}
-use Rattle.monitor.proofs.slots.held.Statement.{statement}
-use Rattle.monitor.proofs.slots.held.Tie as tie
+use Rattle.slots.specs.Named.{openSdids}
+use Rattle.slots.proofs.Sdids.{held-here, held-later, held-by-none}
+use Rattle.slots.proofs.named.held.Statement.{statement}
+use Rattle.slots.proofs.named.held.Tie as tie
 
 abbrev Inv-loop : tie.InvT-loop
 Inv-loop sdid slots i₀ i = (i ≤ 8) × (length slots ≡ 8) × (member (sdid .0) (openSdids slots) ≡ member (sdid .0) (openSdids (drop i slots)))

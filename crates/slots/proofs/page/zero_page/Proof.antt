@@ -1,13 +1,13 @@
--- `monitor::page::zero_page` meets its contract: the invariant: zeroing the words that are left gives the zeroed page.
+-- `slots::page::zero_page` meets its contract: the invariant: zeroing the words that are left gives the zeroed page.
 use mathlib.Core.Path.{_≡_, refl, sym, ap, _∙_}
 use mathlib.Core.List.{List}
 use Prim.Native.Nat.{ℕ, _+_, _-_, _≤_, _<_}
 use native.Mathlib.Omega.{arith}
 use lib.ListN.{length, length-set}
-use Rattle.monitor.specs.Zeroed.{zeroed}
-use Rattle.monitor.proofs.Zeroes.{left, left-all, left-next, left-none}
-use Rattle.monitor.proofs.page.zero_page.Statement.{statement}
-use Rattle.monitor.proofs.page.zero_page.Tie as tie
+use Rattle.slots.specs.Zeroed.{zeroed}
+use Rattle.slots.proofs.Zeroes.{left, left-all, left-next, left-none}
+use Rattle.slots.proofs.page.zero_page.Statement.{statement}
+use Rattle.slots.proofs.page.zero_page.Tie as tie
 
 abbrev Inv-loop : tie.InvT-loop
 Inv-loop words₀ at i₀ words i = (i ≤ 512) × (at + 512 ≤ length words) × (length words ≡ length words₀) × (zeroed words₀ at ≡ left words at i)

@@ -3,7 +3,7 @@ use table::Sdid;
 use table::register;
 ghost use mathlib.Core.Path.{_≡_};
 ghost use Rattle.model.specs.Numbers.{member};
-ghost use Rattle.monitor.specs.Slots as spec;
+ghost use Rattle.slots.specs.Named as spec;
 
 // "Eight slots", and an SDID of six bits.
 const SLOTS: u64 = 8;

@@ -5,9 +5,9 @@ use Rattle.model.specs.Calls as calls
 use Rattle.table.specs.declared.Refusal.{Refusal}
 use Rattle.table.specs.declared.Fence.the-variants.{Nothing}
 use Rattle.table.specs.Views.{refusalNumber, fenceOf}
-use Rattle.monitor.specs.declared.Reply.{Reply}
-use Rattle.monitor.specs.declared.Reply.the-variants.{Refused, Opened, Closed, Edited}
-use Rattle.monitor.specs.declared.Outcome.{Outcome}
+use Rattle.slots.specs.declared.Reply.{Reply}
+use Rattle.slots.specs.declared.Reply.the-variants.{Refused, Opened, Closed, Edited}
+use Rattle.slots.specs.declared.Outcome.{Outcome}
 
 -- a refusal by its number
 abbrev pub replyOf : Reply → calls.Reply

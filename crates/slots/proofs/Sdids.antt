@@ -14,7 +14,7 @@ use Rattle.model.specs.Layout.{rv64}
 use Rattle.model.specs.Register.{sdidOf}
 use Rattle.model.specs.Sound.{Slot, register, isOpen, openRegisters}
 use Rattle.laws.proofs.Lists.{member-step}
-use Rattle.monitor.specs.Slots.{holds, openSdids}
+use Rattle.slots.specs.Named.{holds, openSdids}
 
 module _ (sdid : ℕ) where
   held-step : (s : Slot) (ss : List Slot) → member sdid (openSdids (s ∷ ss)) ≡ (holds s sdid || member sdid (openSdids ss))

@@ -5,7 +5,7 @@ use Prim.Native.Nat.{ℕ, suc, _+_, _-_, _≤_, _<_}
 use native.Mathlib.Omega.{arith}
 use lib.ListN.{set, replicate}
 use lib.Seq.{sets}
-use Rattle.monitor.specs.Zeroed.{zeroed}
+use Rattle.slots.specs.Zeroed.{zeroed}
 
 -- the words from word i of the page on
 unfoldable pub left : List ℕ → ℕ → ℕ → List ℕ

@@ -1,22 +1,24 @@
--- `monitor::close` meets its contract: each return is one of the laws of `Refusals`, by the tests so far.
+-- `slots::close` meets its contract: each return is one of the laws of `Refusals`, by the tests so far.
 use mathlib.Core.Path.{_≡_, sym, ap, _∙_}
 use mathlib.Core.Bool.{true}
-use Prim.Native.Nat.{_<_}
+use Prim.Native.Nat.{ℕ, _<_}
 use native.Mathlib.Omega.{arith}
+use lib.ListN.{set}
 use denote.Ref.{now}
 use borrow.Author.Tests.{not-true, not-false}
 use borrow.Author.Needs.{needs}
 use Rattle.model.specs.Frame.{frameOk}
-use Rattle.model.specs.Sound.{sound}
-use Rattle.model.specs.Calls.{slotAt, refuse}
+use Rattle.model.specs.Sound.{sound, emptySlot}
+use Rattle.model.specs.Fence.{domainFence}
+use Rattle.model.specs.Calls.{closed, slotAt, refuse}
 use Rattle.table.specs.Views.{frameOf}
 use Rattle.table.proofs.Frames.{framed}
 use Rattle.sound.specs.declared.Checked.{Checked}
 use Rattle.sound.proofs.Laws.{says-sound}
-use Rattle.monitor.proofs.Refusals.{close-frame, close-unsound, close-slot, close-done}
-use Rattle.monitor.proofs.Sdids.{slot-low}
-use Rattle.monitor.proofs.close.Statement.{statement}
-use Rattle.monitor.proofs.close.Tie as tie
+use Rattle.slots.proofs.Refusals.{close-frame, close-unsound, close-slot, close-done}
+use Rattle.slots.proofs.Sdids.{slot-low}
+use Rattle.slots.proofs.close.Statement.{statement}
+use Rattle.slots.proofs.close.Tie as tie
 
 frame-passes : (c : tie.Else1) → let a = c .before .before .before .args in frameOk (frameOf (a .f) (now (a .words))) (now (a .words)) ≡ true
 frame-passes c = sym (c .before .frame-ok .ensures) ∙ not-false _ (c .if1 .left)
@@ -90,8 +92,8 @@ returns-4 c = let e = c .before in
     let s = e .before .before in
     let k = s .before .before in
     let a = k .before .before .before .before .args in
-    rw (c .sdid .ensures .0)
-    (sym (close-done (a .f) (now (a .words)) (a .t3) (a .slot) (frame-passes (k .before)) (sym (check-says k) ∙ not-false _ (s .if2 .left)) (sym (e .before .not-open .ensures) ∙ e .if3 .left)))
+    ap (λ (sdid : ℕ). record { reply = closed; memory = now (a .words); slots = set (a .t3) (a .slot) emptySlot; fence = domainFence sdid }) (c .sdid .ensures .0)
+    ∙ sym (close-done (a .f) (now (a .words)) (a .t3) (a .slot) (frame-passes (k .before)) (sym (check-says k) ∙ not-false _ (s .if2 .left)) (sym (e .before .not-open .ensures) ∙ e .if3 .left))
 
 pub close-spec : {M : Type 1} → statement M
 close-spec =

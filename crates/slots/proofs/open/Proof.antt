@@ -1,6 +1,9 @@
--- `monitor::open` meets its contract: each return is one of the laws of `Refusals`, by the tests so far; the marks give the free pages.
-use mathlib.Core.Path.{_≡_, sym, ap, _∙_}
+-- `slots::open` meets its contract: each return is one of the laws of `Refusals`, by the tests so far; the marks give the free pages.
+use mathlib.Core.Path.{_≡_, refl, sym, ap, _∙_}
 use mathlib.Core.Bool.{true, false}
+use mathlib.Core.List.{List, [], _∷_}
+use Prim.Native.Nat.{ℕ}
+use native.Mathlib.Omega.{arith}
 use lib.Dec.{eqb}
 use lib.ListN.{length}
 use denote.Ref.{now}
@@ -16,12 +19,11 @@ use Rattle.sound.specs.declared.Checked.{Checked}
 use Rattle.sound.specs.declared.Free.{Free}
 use Rattle.sound.specs.Free.{clearPages, listed}
 use Rattle.sound.proofs.Laws.{says-sound, checked-free, free-lent, head-lent}
-use Rattle.monitor.specs.Slots.{notEmpty, badSdid}
-use Rattle.monitor.proofs.Refusals.{open-frame, open-unsound, open-slot, open-sdid, open-no-room, open-done}
-use Rattle.monitor.proofs.FreePages.{listed-none}
-use Rattle.monitor.proofs.Sdids.{slot-low, sdid-low}
-use Rattle.monitor.proofs.open.Statement.{statement}
-use Rattle.monitor.proofs.open.Tie as tie
+use Rattle.slots.specs.Named.{notEmpty, badSdid}
+use Rattle.slots.proofs.Refusals.{open-frame, open-unsound, open-slot, open-sdid, open-no-room, open-done}
+use Rattle.slots.proofs.Sdids.{slot-low, sdid-low}
+use Rattle.slots.proofs.open.Statement.{statement}
+use Rattle.slots.proofs.open.Tie as tie
 
 frame-passes : (c : tie.Else1) → let a = c .before .before .before .before .args in frameOk (frameOf (a .f) (now (a .words))) (now (a .words)) ≡ true
 frame-passes c = sym (c .before .frame-ok .ensures) ∙ not-false _ (c .if1 .left)
@@ -59,6 +61,10 @@ free-are c =
     ∙ ap listed (checked-free F m (a .slots) (is-sound s) (bounds F (framed F m (frame-passes e) .0) .most))
 
 -- whether there is one
+listed-none : (pages : List ℕ) → eqb (listed pages .count) 0 ≡ eqb (length pages) 0
+listed-none [] = refl
+listed-none (x ∷ rest) = ne-eqb (listed (x ∷ rest) .count) 0 (λ e. omega (arith, e)) ∙ sym (ne-eqb (length (x ∷ rest)) 0 (λ e. omega (arith, e)))
+
 none-free : (c : tie.After-free-pages) → let a = c .before .before .before .before .before .before .before .before .before .before .before .before .before .before .args in
     let F = frameOf (a .f) (now (a .words)) in eqb (c .free-pages .result .count) 0 ≡ eqb (length (freePages F (now (a .words)) (roots F (a .slots)))) 0
 none-free c =
