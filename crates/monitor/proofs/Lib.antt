@@ -1,6 +1,5 @@
 --   Sdids          whether an SDID is held, slot by slot
 --   Zeroes         a page zeroed word by word
---   Ranges         the range of an edit
 --   SlotRoots      the root of an open slot of a sound table
 --   FreePages      the two lowest free pages stand for all
 --   Refusals       what opening and closing leave, by the tests in their order
@@ -8,7 +7,6 @@
 --   Promise        code and the third demand together: calls that are cut anywhere
 pub mod Sdids
 pub mod Zeroes
-pub mod Ranges
 pub mod SlotRoots
 pub mod FreePages
 pub mod Refusals

@@ -1,18 +1,17 @@
 // The outward calls. None has a `requires`: whatever is handed in gets an answer, and a refusal changes nothing.
 mod page;
-mod range;
 mod slots;
 
 use crate::page::zero_page;
-use crate::range::bad_range;
-use crate::range::on_lent_pages;
 use crate::slots::bad_sdid;
 use crate::slots::not_empty;
 use crate::slots::not_open;
 use edit::make;
-use forms::Request;
 use forms::gibs::new_pages;
 pub use lookup::lookup;
+use range::Request;
+use range::bounds::bad_range;
+use range::bounds::on_lent_pages;
 use sound::check;
 use sound::pick::free_pages;
 use table::Address;
@@ -32,7 +31,7 @@ ghost use Rattle.model.specs.Frame as frame;
 ghost use Rattle.model.specs.Calls as calls;
 ghost use Rattle.table.specs.Views.{frameOf, permissionNumber};
 ghost use Rattle.monitor.specs.Outcomes.{outcomeOf, refusedWith};
-ghost use Rattle.forms.specs.Kinds.{requestOf};
+ghost use Rattle.range.specs.Kinds.{requestOf};
 ghost use Rattle.monitor.specs.Edits.{asked, InOpenSlot};
 
 pub enum Reply {
