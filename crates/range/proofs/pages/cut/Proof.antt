@@ -1,3 +1,4 @@
+-- `range::pages::cut` meets its contract.
 use native.Mathlib.Omega.{arith}
 use borrow.Author.Needs.{needs}
 use Rattle.range.proofs.pages.cut.Statement.{statement}

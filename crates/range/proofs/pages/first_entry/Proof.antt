@@ -1,3 +1,4 @@
+-- `range::pages::first_entry` meets its contract: an entry below the one that holds the start ends before the range.
 use native.Mathlib.Omega.{arith}
 use Rattle.range.proofs.InRange.{below-false}
 use borrow.Author.Needs.{needs}

@@ -1,3 +1,4 @@
+-- `range::pages::lies` meets its contract: each end of the run against each end of the range.
 use native.Mathlib.Omega.{arith}
 use borrow.Author.Needs.{needs}
 use Rattle.range.proofs.InRange.{in-true, below-false, above-false}

@@ -1,3 +1,4 @@
+-- `range::pages::meets` meets its contract: if the code says so, the first page that can lie in the range does.
 use mathlib.Core.Path.{sym, _∙_}
 use mathlib.Core.Bool.{true≢false}
 use Prim.Native.Nat.{ℕ, _+_, _/_}
