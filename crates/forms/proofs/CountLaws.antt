@@ -10,7 +10,7 @@ use lib.Pow.{pow-mono}
 use lib.ListN.{length}
 use borrow.Author.Tests.{eqb-true, ltb-true, ltb-false}
 use Rattle.table.specs.declared.Frame as code
-use Rattle.forms.proofs.Fields.{in-true, below-false, above-false}
+use Rattle.range.proofs.InRange.{in-true, below-false, above-false}
 use Rattle.forms.proofs.FormLaws.{known-form, form-inside, form-flat-out, form-not}
 use Rattle.forms.proofs.GibLaws.{blockIs}
 use Rattle.forms.specs.Kinds.{Ranged, wholePages}

@@ -1,14 +1,14 @@
--- Numbers by their digits, and the pages of a range: what the laws of entries and of forms are made from.
+-- Numbers by their digits: what the laws of entries and of forms are made from.
 use mathlib.Core.Path.{_≡_, refl, sym, ap, ap₂, _∙_}
 use mathlib.Core.Bool.{Bool, true, false, _&&_, true≢false}
 use mathlib.Core.List.{List}
-use Prim.Native.Nat.{ℕ, zero, suc, _+_, _*_, _-_, _/_, _%_, _^_, _≤_, _<_}
+use Prim.Native.Nat.{ℕ, zero, suc, _+_, _*_, _-_, _^_, _≤_, _<_}
 use native.Mathlib.Nat.{mul-zero, mul-suc, pow-zero, pow-suc, zero-add, add-zero, lt-of-lt-of-le, pow-le-pow-right}
 use native.Mathlib.Omega.{arith}
 use native.Mathlib.Numerals.{add-one}
-use lib.Dec.{eqb, leb, ltb}
+use lib.Dec.{eqb, ltb}
 use lib.Pow.{pow-add}
-use borrow.Author.Tests.{eqb-true, eqb-false, eq-eqb, ne-eqb, ltb-true, lt-ltb, le-ltb, le-leb, lt-leb, leb-true}
+use borrow.Author.Tests.{eqb-true, eqb-false, eq-eqb, ne-eqb, ltb-true, leb-true}
 use Rattle.forms.specs.Kinds.{mixedAt}
 use Rattle.laws.proofs.Choices.{split, and-true, and-both}
 use Rattle.laws.proofs.Digits.{pack-lt}
@@ -29,23 +29,6 @@ pow-times a c (suc i) = ap (λ (k : ℕ). a ^ k) (mul-suc c i) ∙ pow-add a (c 
 pub lent-in : (F : Frame) (p : ℕ) → lent F p ≡ true → (F .first ≤ p) × (p < F .first + F .pages)
 unfolding lent
 lent-in F p h = let k = and-true _ _ h in (leb-true _ _ (k .0), ltb-true _ _ (k .1))
-
--- a page in the range, and one outside
-pub in-true : (q : Request) (n : ℕ) → q .start ≤ n * 4096 → n * 4096 < q .start + q .size → inRange q n ≡ true
-unfolding inRange
-in-true q n l u = and-both (le-leb (q .start) (n * 4096) l) (lt-ltb (n * 4096) (q .start + q .size) u)
-
-pub below-false : (q : Request) (n : ℕ) → n * 4096 < q .start → inRange q n ≡ false
-unfolding inRange
-below-false q n l = rw (lt-leb (q .start) (n * 4096) l)
-
-pub above-false : (q : Request) (n : ℕ) → q .start + q .size ≤ n * 4096 → inRange q n ≡ false
-unfolding inRange
-above-false q n u = rw (le-ltb (n * 4096) (q .start + q .size) u) (no (leb (q .start) (n * 4096)))
-  where
-    no : (a : Bool) → (a && false) ≡ false
-    no true = refl
-    no false = refl
 
 pub index-add : (F : Frame) (p i : ℕ) → indexOf F p 0 + i ≡ indexOf F p i
 unfolding indexOf

@@ -1,4 +1,4 @@
---   Fields      numbers by their digits, and the pages of a range
+--   Fields      numbers by their digits
 --   SpliceLaws  words spliced from the old one and the asked permission
 --   EntryLaws   the words of an L1 page, before the edit and after it
 --   FormLaws    the finished form of a block

@@ -3,12 +3,14 @@ use mathlib.Core.Path.{_≡_, sym, ap, _∙_}
 use mathlib.Core.Bool.{Bool, true, false}
 use Prim.Native.Nat.{ℕ, _+_, _*_, _-_, _/_, _%_, _^_, _≤_, _<_}
 use native.Mathlib.Omega.{arith}
-use Rattle.forms.specs.Kinds.{Cut, spreadOf, mixedAt}
+use Rattle.range.specs.Kinds.{Cut}
+use Rattle.forms.specs.Kinds.{spreadOf, mixedAt}
 use Rattle.laws.proofs.Digits.{digit-pack}
 use Rattle.laws.proofs.Splices.{spliced, band-pack}
 use Rattle.model.specs.Forms.{Request, inRange}
 use Rattle.model.specs.Numbers.{if_then_else_, digit, pack}
-use Rattle.forms.proofs.Fields.{pow-times, in-true, below-false, above-false, pack-const, pack4-const, outside}
+use Rattle.range.proofs.InRange.{in-true, below-false, above-false}
+use Rattle.forms.proofs.Fields.{pow-times, pack-const, pack4-const, outside}
 
 -- a splice at a digit of c bits
 pub splice-bits : (c k x y : ℕ) → spliced 2 (c * k) x y ≡ spliced (2 ^ c) k x y

@@ -2,7 +2,7 @@
 use mathlib.Core.Path.{_≡_}
 use mathlib.Core.Bool.{Bool, true, false}
 use mathlib.Core.List.{List}
-use Prim.Native.Nat.{ℕ, _+_, _-_, _*_, _/_, _%_, _≤_, _<_, _^_}
+use Prim.Native.Nat.{ℕ, _+_, _-_, _*_, _/_, _%_, _≤_, _<_}
 use Rattle.model.specs.Numbers.{if_then_else_, digit}
 use Rattle.model.specs.Layout.{gibBlocks}
 use Rattle.model.specs.Entry as entry
@@ -12,50 +12,15 @@ use Rattle.model.specs.Forms as model
 use Rattle.model.specs.Stores as stores
 use Rattle.model.specs.Calls as calls
 use Rattle.theory.specs.Rooted.{Rooted}
-use Rattle.forms.specs.declared.Request.{Request}
 use Rattle.forms.specs.declared.Form.{Form}
 use Rattle.forms.specs.declared.Form.the-variants.{Flat, Pieces, Table}
 use Rattle.forms.specs.declared.Gib.{Gib}
 use Rattle.forms.specs.declared.Piece.{Piece}
-use Rattle.forms.specs.declared.Place.{Place}
-use Rattle.forms.specs.declared.Place.the-variants.{Inside, Outside, Across}
-
-abbrev pub requestOf : Request → model.Request
-requestOf q = record { slot = q .slot; start = q .start .0; size = q .size; permission = q .permission }
 
 abbrev pub formOf : Form → model.Form
 formOf (Flat p) = model.wantFlat p
 formOf (Pieces i) = model.wantPieces i
 formOf Table = model.wantTable
-
--- a permission is one of four, and the range ends within the widest address space
-pub record Fair (q : Request) : Type 0 where
-  pub small : q .permission < 4
-  pub ends : q .start .0 + q .size ≤ 2 ^ 34
-
--- where the n pages from s lie, seen from the range
-abbrev pub Lies : model.Request → ℕ → ℕ → Place → Type 0
-Lies q s n Inside = (k : ℕ) → s ≤ k → k < s + n → model.inRange q k ≡ true
-Lies q s n Outside = (k : ℕ) → s ≤ k → k < s + n → model.inRange q k ≡ false
-Lies q s n Across = Unit {0}
-
--- if so, not all of the n pages from s lie outside the range
-abbrev pub Meets : model.Request → ℕ → ℕ → Bool → Type 0
-Meets q s n true = ((k : ℕ) → s ≤ k → k < s + n → model.inRange q k ≡ false) → ⊥
-Meets q s n false = Unit {0}
-
--- r of the 16 numbers from s lie below end
-pub record Cut (end s r : ℕ) : Type 0 where
-  pub few : r ≤ 16
-  pub below : r ≤ end - s
-  pub past : r < 16 → end ≤ s + r
-
--- no page of block b lies in the range below its L1 entry n; and none from that entry on
-abbrev pub Below : model.Request → ℕ → ℕ → Type 0
-Below q b n = (k : ℕ) → k < b * 8192 + n * 16 → b * 8192 ≤ k → model.inRange q k ≡ false
-
-abbrev pub Past : model.Request → ℕ → ℕ → Type 0
-Past q b n = (k : ℕ) → b * 8192 + n * 16 ≤ k → k < b * 8192 + 8192 → model.inRange q k ≡ false
 
 -- an L1 entry whose fields are all p
 abbrev pub spreadOf : ℕ → ℕ

@@ -1,11 +1,11 @@
 // The finished form of one block.
 use crate::Form;
-use crate::Place;
-use crate::Request;
 use crate::even::even_form;
 use crate::pieces::piece_at;
-use crate::range::lies;
 use crate::words::page_at;
+use range::Place;
+use range::Request;
+use range::pages::lies;
 use table::Entry;
 use table::Frame;
 use table::PageNumber;
@@ -13,7 +13,8 @@ use table::word::decode;
 ghost use mathlib.Core.Path.{_≡_};
 ghost use mathlib.Core.Bool.{true, false};
 ghost use Prim.Native.Nat.{_+_, _*_, _<_};
-ghost use Rattle.forms.specs.Kinds.{requestOf, formOf, Fair, Lies};
+ghost use Rattle.range.specs.Kinds.{requestOf, Fair, Lies};
+ghost use Rattle.forms.specs.Kinds.{formOf};
 ghost use Rattle.model.specs.Forms.{formIn, afterIn, allAre};
 ghost use Rattle.model.specs.Frame.{lent};
 ghost use Rattle.model.specs.Stores.{needsPage};

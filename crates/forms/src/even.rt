@@ -1,15 +1,16 @@
 // A block that is read without an L1 page: its pieces are each of one permission before the edit, and info has them.
 use crate::Form;
-use crate::Request;
-use crate::range::cut;
 use crate::words::splice;
+use range::Request;
+use range::pages::cut;
 use table::Entry;
 use table::Frame;
 use table::word::piece;
 ghost use mathlib.Core.Path.{_≡_};
 ghost use mathlib.Core.Bool.{false};
 ghost use Prim.Native.Nat.{_<_, _^_};
-ghost use Rattle.forms.specs.Kinds.{requestOf, formOf, Fair, Even, Mixes};
+ghost use Rattle.range.specs.Kinds.{requestOf, Fair};
+ghost use Rattle.forms.specs.Kinds.{formOf, Even, Mixes};
 ghost use Rattle.model.specs.Forms.{formIn};
 ghost use Rattle.table.specs.Views.{frameOf, entryOf};
 ghost use Rattle.theory.specs.Rooted.{Good};

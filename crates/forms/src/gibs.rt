@@ -1,21 +1,22 @@
 // The GiBs that a range touches, and the new pages that the whole edit takes.
 use crate::Form;
 use crate::Gib;
-use crate::Place;
-use crate::Request;
 use crate::blocks::block_form;
 use crate::blocks::entry_at;
 use crate::blocks::needs_page;
 use crate::pieces::block_is;
 use crate::pieces::piece_first;
-use crate::range::lies;
-use crate::range::meets;
+use range::Place;
+use range::Request;
+use range::pages::lies;
+use range::pages::meets;
 use table::Frame;
 use table::PageNumber;
 ghost use mathlib.Core.Path.{_≡_};
 ghost use mathlib.Core.Bool.{false};
 ghost use Prim.Native.Nat.{_+_, _*_, _/_, _%_, _≤_, _<_};
-ghost use Rattle.forms.specs.Kinds.{requestOf, Fair, GibIs, Ranged, wholePages};
+ghost use Rattle.range.specs.Kinds.{requestOf, Fair};
+ghost use Rattle.forms.specs.Kinds.{GibIs, Ranged, wholePages};
 ghost use Rattle.model.specs.Forms.{formIn, gibFirst, gibIsOne};
 ghost use Rattle.model.specs.Frame.{blocks};
 ghost use Rattle.model.specs.Numbers.{if_then_else_};

@@ -3,31 +3,13 @@ pub mod blocks;
 pub mod even;
 pub mod gibs;
 pub mod pieces;
-pub mod range;
 pub mod words;
-
-use table::Address;
-
-// What an edit asks. The permission is its two bits, as an entry holds them.
-pub struct Request {
-    pub slot: u64,
-    pub start: Address,
-    pub size: u64,
-    pub permission: u64,
-}
 
 // The finished form of a block.
 pub enum Form {
     Flat(u64),
     Pieces(u64),
     Table,
-}
-
-// Where a run of pages lies, seen from the range.
-pub enum Place {
-    Inside,
-    Outside,
-    Across,
 }
 
 // Whether a piece is of one permission once the edit is whole, and the permission of its first page.

@@ -1,12 +1,12 @@
 // Pieces of a block, and whole blocks: are they of one permission once the edit is whole?
 use crate::Piece;
-use crate::Place;
-use crate::Request;
-use crate::range::lies;
 use crate::words::after_word;
 use crate::words::old_word;
 use crate::words::page_at;
 use crate::words::spread;
+use range::Place;
+use range::Request;
+use range::pages::lies;
 use table::Entry;
 use table::Frame;
 use table::word::piece;
@@ -14,7 +14,8 @@ ghost use mathlib.Core.Path.{_≡_};
 ghost use Prim.Native.Nat.{_+_, _*_, _≤_, _<_};
 ghost use lib.Dec.{eqb};
 ghost use lib.ListN.{length, getD};
-ghost use Rattle.forms.specs.Kinds.{requestOf, Fair, Lies, PieceIs};
+ghost use Rattle.range.specs.Kinds.{requestOf, Fair, Lies};
+ghost use Rattle.forms.specs.Kinds.{PieceIs};
 ghost use Rattle.model.specs.Forms.{allAre, afterIn};
 ghost use Rattle.model.specs.Numbers.{every};
 ghost use Rattle.table.specs.Views.{frameOf, entryOf};

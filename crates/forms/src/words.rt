@@ -1,8 +1,8 @@
 // L1 entries, as they stand and once the edit is whole.
-use crate::Place;
-use crate::Request;
-use crate::range::cut;
-use crate::range::lies;
+use range::Place;
+use range::Request;
+use range::pages::cut;
+use range::pages::lies;
 use table::Entry;
 use table::Frame;
 use table::PageNumber;
@@ -12,7 +12,8 @@ ghost use mathlib.Core.Path.{_≡_};
 ghost use mathlib.Core.Bool.{true};
 ghost use Prim.Native.Nat.{_+_, _*_, _/_, _%_, _≤_, _<_, _^_};
 ghost use lib.ListN.{length};
-ghost use Rattle.forms.specs.Kinds.{requestOf, Fair, spreadOf, oldWord, mixedAt};
+ghost use Rattle.range.specs.Kinds.{requestOf, Fair};
+ghost use Rattle.forms.specs.Kinds.{spreadOf, oldWord, mixedAt};
 ghost use Rattle.model.specs.Forms.{l1Word};
 ghost use Rattle.model.specs.Frame.{lent, indexOf};
 ghost use Rattle.model.specs.Numbers.{pack};

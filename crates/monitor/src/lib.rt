@@ -1,13 +1,11 @@
 // The outward calls. None has a `requires`: whatever is handed in gets an answer, and a refusal changes nothing.
 // The contract of `edit` is here, those of `open` and `close` in `slots`, that of `lookup` in `lookup`.
-mod range;
-
-use crate::range::bad_range;
-use crate::range::on_lent_pages;
 use edit::make;
-use forms::Request;
 use forms::gibs::new_pages;
 pub use lookup::lookup;
+use range::Request;
+use range::bounds::bad_range;
+use range::bounds::on_lent_pages;
 pub use slots::Outcome;
 pub use slots::Reply;
 pub use slots::close;
@@ -27,7 +25,7 @@ ghost use mathlib.Core.Path.{_≡_};
 ghost use Rattle.model.specs.Calls as calls;
 ghost use Rattle.table.specs.Views.{frameOf, permissionNumber};
 ghost use Rattle.slots.specs.Outcomes.{outcomeOf};
-ghost use Rattle.forms.specs.Kinds.{requestOf};
+ghost use Rattle.range.specs.Kinds.{requestOf};
 ghost use Rattle.monitor.specs.Edits.{asked, InOpenSlot};
 
 // An edit in an open slot of a sound table, whose marks are at hand. Refusals 5, 6, 7, in this order, and then the stores.

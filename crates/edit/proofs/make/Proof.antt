@@ -13,7 +13,7 @@ use Rattle.entries.proofs.Runs.{out-whole, out-cut}
 use Rattle.edit.specs.Done.{fenceAfter}
 use Rattle.edit.specs.Kinds.{wholeList, Accepted, freeList}
 use Rattle.entries.specs.Run.{whole, cut, out, run}
-use Rattle.forms.specs.Kinds.{requestOf}
+use Rattle.range.specs.Kinds.{requestOf}
 use Rattle.model.specs.Stores.{Store}
 use Rattle.table.specs.Views.{frameOf, fenceOf}
 use Rattle.edit.proofs.make.Statement.{statement}

@@ -1,6 +1,6 @@
 use mathlib.Core.List.{List}
 use Rattle.table.specs.declared.Frame as code
-use Rattle.forms.specs.declared.Request as code′
+use Rattle.range.specs.declared.Request as code′
 use mathlib.Core.Path.{_≡_, refl, sym, ap, ap₂, _∙_, subst}
 use mathlib.Core.Bool.{Bool, true, false}
 use Prim.Native.Nat.{ℕ, _+_, _-_, _*_, _/_, _≤_, _<_}
@@ -13,7 +13,7 @@ use Rattle.edit.proofs.Going.{size}
 use Rattle.entries.proofs.Runs.{out-whole, out-cut}
 use Rattle.forms.specs.declared.Gib.{Gib}
 use Rattle.edit.specs.Kinds.{freeList}
-use Rattle.forms.specs.Kinds.{requestOf, Fair}
+use Rattle.range.specs.Kinds.{requestOf, Fair}
 use Rattle.table.specs.Views.{frameOf}
 use Rattle.edit.proofs.stores.Statement.{statement}
 use Rattle.edit.proofs.stores.Tie as tie

@@ -18,7 +18,8 @@ use Rattle.table.specs.Views.{frameOf}
 use Rattle.table.proofs.Frames.{framed}
 use Rattle.sound.specs.declared.Free.{Free}
 use Rattle.sound.specs.Free.{listed}
-use Rattle.forms.specs.Kinds.{requestOf, wholePages}
+use Rattle.range.specs.Kinds.{requestOf}
+use Rattle.forms.specs.Kinds.{wholePages}
 use Rattle.edit.specs.Kinds.{Accepted, freeList}
 use Rattle.edit.specs.Done.{IsMade}
 use Rattle.edit.proofs.Facts.{accepted-list}

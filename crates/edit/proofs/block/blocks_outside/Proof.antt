@@ -1,5 +1,5 @@
 use native.Mathlib.Omega.{arith}
-use Rattle.forms.proofs.Fields.{above-false, below-false}
+use Rattle.range.proofs.InRange.{above-false, below-false}
 use borrow.Author.Needs.{needs}
 use Rattle.edit.proofs.block.blocks_outside.Statement.{statement}
 use Rattle.edit.proofs.block.blocks_outside.Tie as tie

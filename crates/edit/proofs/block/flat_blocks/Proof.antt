@@ -8,7 +8,7 @@ use Rattle.edit.specs.Kinds.{freeList}
 use Rattle.entries.specs.Rows.{rowStores}
 use Rattle.entries.specs.Run.{run}
 use Rattle.entries.proofs.Places.{place}
-use Rattle.forms.specs.Kinds.{requestOf}
+use Rattle.range.specs.Kinds.{requestOf}
 use Rattle.model.specs.Frame.{indexOf}
 use Rattle.model.specs.Stores.{Store}
 use Rattle.table.specs.Views.{frameOf}

@@ -12,7 +12,8 @@ use Rattle.edit.proofs.Facts.{form-encodes}
 use Rattle.edit.proofs.BlockRows.{over-one, pages-one}
 use Rattle.edit.specs.Kinds.{Encodes, storesAt, freeList}
 use Rattle.entries.specs.Run.{run}
-use Rattle.forms.specs.Kinds.{requestOf, formOf, formAt}
+use Rattle.range.specs.Kinds.{requestOf}
+use Rattle.forms.specs.Kinds.{formOf, formAt}
 use Rattle.model.specs.Entry.{Entry}
 use Rattle.model.specs.Numbers.{if_then_else_}
 use Rattle.table.specs.Views.{frameOf, entryOf}

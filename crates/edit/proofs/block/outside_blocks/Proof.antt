@@ -10,7 +10,7 @@ use Rattle.edit.specs.Over.{Did}
 use Rattle.entries.specs.Rows.{rowStores, piecesWord}
 use Rattle.entries.specs.Run.{run}
 use Rattle.entries.proofs.Places.{place}
-use Rattle.forms.specs.Kinds.{requestOf, Fair}
+use Rattle.range.specs.Kinds.{requestOf, Fair}
 use Rattle.model.specs.Frame.{blocks, indexOf}
 use Rattle.model.specs.Stores.{Store}
 use Rattle.table.specs.Views.{frameOf}

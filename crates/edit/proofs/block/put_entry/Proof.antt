@@ -5,7 +5,7 @@ use borrow.Author.Needs.{needs}
 use Rattle.edit.proofs.BlockRows.{changed-l2}
 use Rattle.entries.specs.Run.{run}
 use Rattle.entries.proofs.Places.{place}
-use Rattle.forms.specs.Kinds.{requestOf}
+use Rattle.range.specs.Kinds.{requestOf}
 use Rattle.model.specs.Frame.{indexOf}
 use Rattle.model.specs.Stores.{Store}
 use Rattle.table.specs.Views.{frameOf, entryOf}

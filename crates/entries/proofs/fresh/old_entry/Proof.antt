@@ -4,7 +4,7 @@ use lib.ListN.{length}
 use borrow.Author.Needs.{needs}
 use Rattle.entries.proofs.Places.{stored}
 use Rattle.forms.proofs.EntryLaws.{word-outside}
-use Rattle.forms.specs.Kinds.{requestOf}
+use Rattle.range.specs.Kinds.{requestOf}
 use Rattle.table.specs.Views.{frameOf, entryOf}
 use Rattle.entries.proofs.fresh.old_entry.Statement.{statement}
 use Rattle.entries.proofs.fresh.old_entry.Tie as tie

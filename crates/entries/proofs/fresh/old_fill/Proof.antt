@@ -7,7 +7,8 @@ use Rattle.entries.proofs.Places.{place}
 use Rattle.entries.specs.Pages.{newRun}
 use Rattle.entries.specs.Rows.{fillStores}
 use Rattle.entries.specs.Run.{run}
-use Rattle.forms.specs.Kinds.{requestOf, spreadOf}
+use Rattle.range.specs.Kinds.{requestOf}
+use Rattle.forms.specs.Kinds.{spreadOf}
 use Rattle.model.specs.Entry as entry
 use Rattle.model.specs.Frame.{indexOf}
 use Rattle.model.specs.Stores.{Store}

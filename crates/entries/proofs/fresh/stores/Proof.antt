@@ -5,7 +5,7 @@ use Rattle.entries.proofs.NewPage.{run-same, run-parts}
 use Rattle.entries.proofs.Places.{lent-same, good-same}
 use Rattle.entries.proofs.Runs.{went-whole, went-cut, first-cut, then-rest}
 use Rattle.entries.specs.Run.{run}
-use Rattle.forms.specs.Kinds.{requestOf}
+use Rattle.range.specs.Kinds.{requestOf}
 use Rattle.model.specs.Stores.{Store}
 use Rattle.table.specs.Views.{entryOf}
 use borrow.Author.Needs.{needs}

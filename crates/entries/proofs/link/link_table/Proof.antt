@@ -5,7 +5,7 @@ use borrow.Author.Needs.{needs}
 use Rattle.entries.proofs.Places.{frame-same, lent-same, good-same}
 use Rattle.entries.proofs.Runs.{went-whole, went-cut, first-cut, then-rest}
 use Rattle.entries.specs.Run.{run}
-use Rattle.forms.specs.Kinds.{requestOf}
+use Rattle.range.specs.Kinds.{requestOf}
 use Rattle.model.specs.Entry.{table, encode}
 use Rattle.model.specs.Frame.{Frame, lent}
 use Rattle.model.specs.Layout.{rv64}

@@ -5,7 +5,7 @@ use borrow.Author.Tests.{not-true}
 use lib.ListN.{length}
 use Rattle.forms.proofs.FormLaws.{isOne, form-table}
 use Rattle.forms.proofs.Fields.{every-fail}
-use Rattle.forms.specs.Kinds.{requestOf}
+use Rattle.range.specs.Kinds.{requestOf}
 use Rattle.table.specs.Views.{frameOf, entryOf}
 use borrow.Author.Needs.{needs}
 use Rattle.forms.proofs.blocks.cut_form.Statement.{statement}

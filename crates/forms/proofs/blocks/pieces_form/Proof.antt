@@ -9,7 +9,7 @@ use lib.ListN.{length}
 use Rattle.forms.proofs.FormLaws.{firstOf, isOne, form-pieces, form-table}
 use Rattle.forms.proofs.Fields.{horner, every-down, every-fail, pack4-fits}
 use Rattle.forms.proofs.EntryLaws.{after-small}
-use Rattle.forms.specs.Kinds.{requestOf}
+use Rattle.range.specs.Kinds.{requestOf}
 use Rattle.model.specs.Forms.{allAre, wantPieces}
 use Rattle.model.specs.Numbers.{pack, every}
 use Rattle.table.specs.Views.{frameOf, entryOf}

@@ -3,7 +3,8 @@ use Prim.Native.Nat.{ℕ, _+_, _*_, _/_}
 use lib.ListN.{length}
 use Rattle.forms.proofs.EvenLaws.{even-empty, mixed-first, mixed-past, even-spliced}
 use Rattle.forms.proofs.SpliceLaws.{splice-bits}
-use Rattle.forms.specs.Kinds.{requestOf, Mixes}
+use Rattle.range.specs.Kinds.{requestOf}
+use Rattle.forms.specs.Kinds.{Mixes}
 use Rattle.laws.proofs.Splices.{spliced}
 use Rattle.model.specs.Forms.{wantPieces}
 use Rattle.table.specs.Views.{entryOf}

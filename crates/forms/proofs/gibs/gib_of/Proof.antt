@@ -4,7 +4,7 @@ use native.Mathlib.Omega.{arith}
 use lib.ListN.{length}
 use borrow.Author.Needs.{needs}
 use Rattle.forms.proofs.GibLaws.{inside-first, inside-one}
-use Rattle.forms.specs.Kinds.{requestOf}
+use Rattle.range.specs.Kinds.{requestOf}
 use Rattle.table.specs.Views.{frameOf, entryOf}
 use Rattle.theory.specs.Rooted.{Good}
 use Rattle.forms.proofs.gibs.gib_of.Statement.{statement}

@@ -2,7 +2,7 @@ use mathlib.Core.Path.{_≡_, ap}
 use Prim.Native.Nat.{_/_}
 use lib.ListN.{length}
 use Rattle.forms.proofs.FormLaws.{form-inside}
-use Rattle.forms.specs.Kinds.{requestOf}
+use Rattle.range.specs.Kinds.{requestOf}
 use Rattle.model.specs.Forms.{Form}
 use Rattle.model.specs.Numbers.{if_then_else_}
 use Rattle.model.specs.Stores.{needsPage}
@@ -14,7 +14,7 @@ use Rattle.forms.proofs.gibs.new_page.Tie as tie
 use Rattle.forms.proofs.gibs.new_page.Reads as reads
 use Rattle.forms.proofs.gibs.new_page.Lts as lts
 use Rattle.forms.proofs.gibs.read_page.Reads as read-page-reads
-use Rattle.forms.proofs.range.lies.Reads as lies-reads
+use Rattle.range.proofs.pages.lies.Reads as lies-reads
 
 mul-lies : tie.Need-mul-lies
 mul-lies c = search needs

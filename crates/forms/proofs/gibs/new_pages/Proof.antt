@@ -2,7 +2,7 @@ use mathlib.Core.Path.{_≡_, refl, sym, ap, ap₂, _∙_, subst}
 use Prim.Native.Nat.{ℕ, _+_, _-_, _/_, _≤_, _<_}
 use native.Mathlib.Omega.{arith}
 use Rattle.forms.proofs.CountLaws.{ends, some, low-inside, high-inside, count-one, count-two, one-at-most}
-use Rattle.forms.specs.Kinds.{requestOf, Fair}
+use Rattle.range.specs.Kinds.{requestOf, Fair}
 use Rattle.forms.proofs.gibs.new_pages.Statement.{statement}
 use Rattle.forms.proofs.gibs.new_pages.Tie as tie
 use Rattle.forms.proofs.gibs.new_pages.Reads as reads

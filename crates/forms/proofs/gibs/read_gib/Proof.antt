@@ -3,7 +3,7 @@ use Prim.Native.Nat.{_+_, _*_, _/_}
 use native.Mathlib.Omega.{arith}
 use lib.ListN.{length}
 use Rattle.forms.proofs.GibLaws.{first-of, mixed-gib}
-use Rattle.forms.specs.Kinds.{requestOf, Meets}
+use Rattle.range.specs.Kinds.{requestOf, Meets}
 use Rattle.model.specs.Entry.{Entry}
 use Rattle.model.specs.Forms.{afterIn, gibFirst}
 use Rattle.table.specs.Views.{frameOf}

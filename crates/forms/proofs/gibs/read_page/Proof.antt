@@ -3,7 +3,7 @@ use mathlib.Core.Bool.{false}
 use native.Mathlib.Omega.{arith}
 use borrow.Author.Tests.{not-true}
 use Rattle.forms.proofs.CountLaws.{table-none}
-use Rattle.forms.specs.Kinds.{requestOf}
+use Rattle.range.specs.Kinds.{requestOf}
 use Rattle.model.specs.Entry.{Entry}
 use Rattle.model.specs.Forms as model
 use Rattle.model.specs.Stores.{needsPage}

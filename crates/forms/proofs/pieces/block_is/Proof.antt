@@ -1,7 +1,7 @@
 use Prim.Native.Nat.{_*_, _/_}
 use lib.ListN.{length}
 use Rattle.forms.proofs.EntryLaws.{run-inside}
-use Rattle.forms.specs.Kinds.{requestOf}
+use Rattle.range.specs.Kinds.{requestOf}
 use Rattle.table.specs.Views.{entryOf}
 use borrow.Author.Needs.{needs}
 use Rattle.forms.proofs.pieces.block_is.Statement.{statement}

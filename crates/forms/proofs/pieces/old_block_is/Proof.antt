@@ -5,7 +5,7 @@ use native.Mathlib.Omega.{arith}
 use lib.ListN.{length}
 use Rattle.forms.proofs.EntryLaws.{run-outside}
 use Rattle.forms.proofs.EvenLaws.{even-is, even-pieces}
-use Rattle.forms.specs.Kinds.{requestOf}
+use Rattle.range.specs.Kinds.{requestOf}
 use Rattle.model.specs.Forms.{permOf}
 use Rattle.model.specs.Walk.{found}
 use Rattle.table.specs.Views.{entryOf}

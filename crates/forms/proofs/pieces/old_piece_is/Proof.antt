@@ -7,7 +7,8 @@ use borrow.Author.Needs.{needs}
 use Rattle.forms.proofs.EntryLaws.{run-outside}
 use Rattle.forms.proofs.Fields.{eqb-swap, index-add}
 use Rattle.forms.proofs.FormLaws.{piece-words}
-use Rattle.forms.specs.Kinds.{requestOf, spreadOf}
+use Rattle.range.specs.Kinds.{requestOf}
+use Rattle.forms.specs.Kinds.{spreadOf}
 use Rattle.model.specs.Entry.{Entry}
 use Rattle.model.specs.Forms.{allAre, permOf}
 use Rattle.model.specs.Frame.{indexOf}

@@ -4,7 +4,7 @@ use native.Mathlib.Omega.{arith}
 use lib.ListN.{length}
 use borrow.Author.Tests.{eq-eqb}
 use Rattle.forms.proofs.EntryLaws.{run-inside}
-use Rattle.forms.specs.Kinds.{requestOf}
+use Rattle.range.specs.Kinds.{requestOf}
 use Rattle.model.specs.Forms.{afterIn}
 use Rattle.table.specs.Views.{frameOf, entryOf}
 use borrow.Author.Needs.{needs}
@@ -14,7 +14,7 @@ use Rattle.forms.proofs.pieces.piece_at.Reads as reads
 use Rattle.forms.proofs.pieces.piece_at.Lts as lts
 use Rattle.forms.proofs.pieces.cut_piece.Reads as cut-piece-reads
 use Rattle.forms.proofs.pieces.old_piece.Reads as old-piece-reads
-use Rattle.forms.proofs.range.lies.Reads as lies-reads
+use Rattle.range.proofs.pages.lies.Reads as lies-reads
 
 -- src/pieces.rt:132:19
 mul-lies : tie.Need-mul-lies

@@ -4,7 +4,7 @@ use native.Mathlib.Omega.{arith}
 use lib.ListN.{length}
 use borrow.Author.Needs.{needs}
 use Rattle.forms.proofs.EntryLaws.{first-field, after-small}
-use Rattle.forms.specs.Kinds.{requestOf}
+use Rattle.range.specs.Kinds.{requestOf}
 use Rattle.model.specs.Forms.{afterIn}
 use Rattle.table.specs.Views.{frameOf, entryOf}
 use Rattle.forms.proofs.pieces.piece_first.Statement.{statement}

@@ -5,7 +5,7 @@ use lib.ListN.{length}
 use lib.Dec.{eqb}
 use borrow.Author.Needs.{needs}
 use Rattle.forms.proofs.EntryLaws.{run-inside}
-use Rattle.forms.specs.Kinds.{requestOf}
+use Rattle.range.specs.Kinds.{requestOf}
 use Rattle.model.specs.Forms.{allAre}
 use Rattle.table.specs.Views.{frameOf, entryOf}
 use Rattle.forms.proofs.pieces.piece_is.Statement.{statement}

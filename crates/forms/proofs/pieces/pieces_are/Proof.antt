@@ -6,7 +6,7 @@ use borrow.Author.Needs.{needs}
 use borrow.Author.Tests.{not-true, not-false}
 use lib.ListN.{length}
 use Rattle.forms.proofs.EntryLaws.{pieces-next, pieces-stop, all-none}
-use Rattle.forms.specs.Kinds.{requestOf}
+use Rattle.range.specs.Kinds.{requestOf}
 use Rattle.model.specs.Forms.{allAre}
 use Rattle.table.specs.Views.{frameOf, entryOf}
 use Rattle.forms.proofs.pieces.pieces_are.Statement.{statement}

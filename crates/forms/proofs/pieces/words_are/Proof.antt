@@ -8,7 +8,8 @@ use borrow.Author.Tests.{eq-eqb, ne-eqb}
 use lib.Dec.{eqb}
 use lib.ListN.{length}
 use Rattle.forms.proofs.EntryLaws.{word-is, words-next, words-stop, all-none}
-use Rattle.forms.specs.Kinds.{requestOf, spreadOf}
+use Rattle.range.specs.Kinds.{requestOf}
+use Rattle.forms.specs.Kinds.{spreadOf}
 use Rattle.model.specs.Forms.{allAre}
 use Rattle.table.specs.Views.{frameOf, entryOf}
 use Rattle.forms.proofs.pieces.words_are.Statement.{statement}

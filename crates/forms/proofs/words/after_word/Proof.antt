@@ -3,7 +3,8 @@ use Prim.Native.Nat.{ℕ, _+_, _*_, _/_, _<_, _^_}
 use lib.ListN.{length}
 use borrow.Author.Needs.{needs}
 use Rattle.forms.proofs.EntryLaws.{word-inside, word-outside, word-across}
-use Rattle.forms.specs.Kinds.{requestOf, mixedAt}
+use Rattle.range.specs.Kinds.{requestOf}
+use Rattle.forms.specs.Kinds.{mixedAt}
 use Rattle.model.specs.Numbers.{pack}
 use Rattle.table.specs.Views.{entryOf}
 use Rattle.forms.proofs.words.after_word.Statement.{statement}

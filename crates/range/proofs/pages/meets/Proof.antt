@@ -1,15 +1,16 @@
-use mathlib.Core.Path.{_≡_, sym, _∙_}
+-- `range::pages::meets` meets its contract: if the code says so, the first page that can lie in the range does.
+use mathlib.Core.Path.{sym, _∙_}
 use mathlib.Core.Bool.{true≢false}
-use Prim.Native.Nat.{ℕ, _+_, _*_, _/_}
+use Prim.Native.Nat.{ℕ, _+_, _/_}
 use native.Mathlib.Omega.{arith}
 use lib.Dec.{leb}
 use borrow.Author.Tests.{leb-true, leb-false}
-use Rattle.forms.proofs.Fields.{in-true}
-use Rattle.forms.specs.Kinds.{requestOf}
+use Rattle.range.proofs.InRange.{in-true}
+use Rattle.range.specs.Kinds.{requestOf}
 use Rattle.laws.proofs.Choices.{split}
 use borrow.Author.Needs.{needs}
-use Rattle.forms.proofs.range.meets.Statement.{statement}
-use Rattle.forms.proofs.range.meets.Tie as tie
+use Rattle.range.proofs.pages.meets.Statement.{statement}
+use Rattle.range.proofs.pages.meets.Tie as tie
 
 add-end : tie.Need-add-end
 add-end c = search needs

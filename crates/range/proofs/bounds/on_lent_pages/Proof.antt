@@ -1,15 +1,13 @@
--- `monitor::range::on_lent_pages` meets its contract.
-use mathlib.Core.Path.{_≡_, refl, sym, ap, _∙_}
-use Prim.Native.Nat.{ℕ, _+_, _*_, _/_, _≤_, _<_}
+-- `range::bounds::on_lent_pages` meets its contract.
 use native.Mathlib.Omega.{arith}
 use lib.Dec.{lit≤}
 use borrow.Author.Tests.{eq-eqb, ne-eqb, lt-ltb, le-ltb}
 use Rattle.model.specs.Calls.{meetsLent}
 use Rattle.table.specs.Views.{frameOver}
-use Rattle.forms.specs.Kinds.{requestOf}
-use Rattle.monitor.proofs.Ranges.{range-ends, lent-ends}
-use Rattle.monitor.proofs.range.on_lent_pages.Statement.{statement}
-use Rattle.monitor.proofs.range.on_lent_pages.Tie as tie
+use Rattle.range.specs.Kinds.{requestOf}
+use Rattle.range.proofs.Ends.{range-ends, lent-ends}
+use Rattle.range.proofs.bounds.on_lent_pages.Statement.{statement}
+use Rattle.range.proofs.bounds.on_lent_pages.Tie as tie
 
 returns : tie.Need-returns
 returns c = rw (eq-eqb _ _ (c .if1 .taken))

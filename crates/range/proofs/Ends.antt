@@ -1,16 +1,16 @@
 -- The range of an edit: a sum that may wrap, tested without it; and what a good range says.
-use mathlib.Core.Path.{_≡_, refl, sym, ap, _∙_}
-use mathlib.Core.Bool.{Bool, true, false, not, _&&_, _||_}
-use Prim.Native.Nat.{ℕ, _+_, _-_, _*_, _≤_, _<_, _^_}
+use mathlib.Core.Path.{_≡_, sym, _∙_}
+use mathlib.Core.Bool.{true, false}
+use Prim.Native.Nat.{ℕ, _+_, _-_, _≤_, _<_, _^_}
 use native.Mathlib.Omega.{arith}
-use lib.Dec.{eqb, ltb, leb}
+use lib.Dec.{ltb}
 use lib.Pow.{pow-mono}
-use borrow.Author.Tests.{ltb-true, ltb-false, lt-ltb, le-ltb, eqb-false, lt-leb, le-leb}
+use borrow.Author.Tests.{ltb-true, ltb-false, lt-ltb, le-ltb}
 use Rattle.model.specs.Frame.{Frame, boundsOk}
 use Rattle.model.specs.Forms.{Request}
 use Rattle.model.specs.Calls.{badRange}
 use Rattle.laws.proofs.Choices.{split}
-use Rattle.theory.proofs.Ranges.{GoodRange, good-range}
+use Rattle.theory.proofs.Ranges.{good-range}
 use Rattle.table.proofs.Frames.{bounds}
 
 -- end - start < size, where start is no more than end, says end < start + size

@@ -1,14 +1,13 @@
--- `monitor::range::bad_range` meets its contract: the tests in the definition's order, and the sum without its wrap.
-use mathlib.Core.Path.{_≡_, refl, sym, ap, _∙_}
-use Prim.Native.Nat.{ℕ, _+_, _-_, _≤_, _<_}
+-- `range::bounds::bad_range` meets its contract: the tests in the definition's order, and the sum without its wrap.
+use mathlib.Core.Path.{sym}
+use Prim.Native.Nat.{_+_}
 use native.Mathlib.Omega.{arith}
-use lib.Dec.{ltb}
 use borrow.Author.Tests.{eq-eqb, ne-eqb, lt-ltb}
 use Rattle.model.specs.Calls.{badRange}
 use Rattle.table.proofs.Frames.{bounds}
-use Rattle.monitor.proofs.Ranges.{no-wrap}
-use Rattle.monitor.proofs.range.bad_range.Statement.{statement}
-use Rattle.monitor.proofs.range.bad_range.Tie as tie
+use Rattle.range.proofs.Ends.{no-wrap}
+use Rattle.range.proofs.bounds.bad_range.Statement.{statement}
+use Rattle.range.proofs.bounds.bad_range.Tie as tie
 
 returns : tie.Need-returns
 unfolding badRange

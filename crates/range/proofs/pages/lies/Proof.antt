@@ -1,8 +1,9 @@
+-- `range::pages::lies` meets its contract: each end of the run against each end of the range.
 use native.Mathlib.Omega.{arith}
 use borrow.Author.Needs.{needs}
-use Rattle.forms.proofs.Fields.{in-true, below-false, above-false}
-use Rattle.forms.proofs.range.lies.Statement.{statement}
-use Rattle.forms.proofs.range.lies.Tie as tie
+use Rattle.range.proofs.InRange.{in-true, below-false, above-false}
+use Rattle.range.proofs.pages.lies.Statement.{statement}
+use Rattle.range.proofs.pages.lies.Tie as tie
 
 add-end : tie.Need-add-end
 add-end c = search needs

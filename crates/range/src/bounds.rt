@@ -1,5 +1,5 @@
-// What an edit asks of its range.
-use forms::Request;
+// Whether an edit may have its range: the two tests that document 01 makes of it.
+use crate::Request;
 use table::Frame;
 use table::lent::pow2;
 ghost use mathlib.Core.Path.{_≡_};
@@ -8,7 +8,7 @@ ghost use lib.Dec.{eqb};
 ghost use Rattle.model.specs.Frame.{boundsOk};
 ghost use Rattle.model.specs.Calls.{badRange, meetsLent};
 ghost use Rattle.table.specs.Views.{frameOver};
-ghost use Rattle.forms.specs.Kinds.{requestOf};
+ghost use Rattle.range.specs.Kinds.{requestOf};
 
 // "Length 0, start or length not a multiple of 4,096, or start + length (no wrap) above 2^PAW."
 pub fn bad_range(f: Frame, n: usize, q: Request) -> bool

@@ -2,7 +2,7 @@
 use crate::Place;
 use crate::Request;
 ghost use Prim.Native.Nat.{_+_, _≤_, _<_, _^_};
-ghost use Rattle.forms.specs.Kinds.{requestOf, Fair, Lies, Meets, Cut, Below, Past};
+ghost use Rattle.range.specs.Kinds.{requestOf, Fair, Lies, Meets, Cut, Below, Past};
 
 // Where the n pages from page s lie.
 pub fn lies(q: Request, s: u64, n: u64) -> Place
