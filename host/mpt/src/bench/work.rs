@@ -30,10 +30,19 @@ const LOOKUPS: usize = 65_536;
 const TABLES: usize = 32;
 
 impl Work {
-    /// The tables that a batch needs: those that calls leave unchanged need one.
+    /// The tables that a batch needs: those that calls leave unchanged need one. Each begins at another
+    /// place of a page: where a word of the table and one of the stack have the same place in their
+    /// pages, a core takes them for the same for a moment, and by chance all tables would or none.
     pub fn tables(&self) -> Vec<Table> {
         let changing = !matches!(self.call, Call::Lookups(_) | Call::Sound);
-        vec![self.table.clone(); if changing { TABLES } else { 1 }]
+        (0..if changing { TABLES } else { 1 }).map(|nth| self.table_with_room(16 * nth)).collect()
+    }
+
+    /// The table, with room for as many words more behind it.
+    fn table_with_room(&self, more: usize) -> Table {
+        let mut words = Vec::with_capacity(self.table.words().len() + more);
+        words.extend_from_slice(self.table.words());
+        Table::from_parts(self.table.frame(), words, *self.table.slots())
     }
 
     /// How many calls a batch makes.
