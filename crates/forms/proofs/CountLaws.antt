@@ -5,18 +5,19 @@ use mathlib.Core.Logic.{_≢_}
 use mathlib.Core.List.{List, [], _∷_}
 use Prim.Native.Nat.{ℕ, zero, suc, _+_, _*_, _-_, _/_, _%_, _^_, _≤_, _<_}
 use native.Mathlib.Omega.{arith}
-use lib.Dec.{eqb, ltb}
+use lib.Dec.{eqb, ltb, leb}
 use lib.Pow.{pow-mono}
 use lib.ListN.{length}
-use borrow.Author.Tests.{eqb-true, ltb-true, ltb-false}
+use borrow.Author.Tests.{eqb-true, ltb-true, ltb-false, leb-true, leb-false}
 use Rattle.table.specs.declared.Frame as code
 use Rattle.range.proofs.InRange.{in-true, below-false, above-false}
+use Rattle.forms.proofs.EvenLaws.{in-at, out-above}
 use Rattle.forms.proofs.FormLaws.{known-form, form-inside, form-flat-out, form-not}
 use Rattle.forms.proofs.GibLaws.{blockIs}
 use Rattle.forms.specs.Kinds.{Ranged, wholePages}
 use Rattle.laws.proofs.Choices.{split}
 use Rattle.laws.proofs.Every.{every-in}
-use Rattle.laws.proofs.Sums.{sum, sum-change, sum-const, sum-split}
+use Rattle.laws.proofs.Sums.{sum, sum-cong, sum-change, sum-const, sum-split}
 use Rattle.model.specs.Entry.{Entry, flat, pieces, table, invalid}
 use Rattle.model.specs.Forms.{Request, Form, wantFlat, wantPieces, wantTable, inRange, permOf, afterIn, allAre, formIn, gibFirst, gibIsOne, forms, firstGib, gibs}
 use Rattle.model.specs.Frame.{Frame, blocks}
@@ -87,6 +88,38 @@ module _ (paw first pages : ℕ) (m : List ℕ) (q : Request) (low : q .permissi
       no-page e _ _
       (known-form paw first pages m q low e g b (λ i. p) (p * 0x5555_5555)
       (λ i k u lo hi. eqb-true _ _ (every-in (λ n. eqb (afterIn F m q e n) p) 8192 (b * 8192) h k (omega arith) (omega arith))) (omega arith))
+
+  -- a block whose pieces each lie in the range or outside it
+  pieces-none : ((i k : ℕ) → i < 16 → b * 8192 + i * 512 ≤ k → k < b * 8192 + i * 512 + 512 → inRange q k ≡ inRange q (b * 8192 + i * 512))
+      → needsPage (formIn F m q false 0 e b) e ≡ false
+  unfolding afterIn found permOf pieceOf needsPage
+  pieces-none h = go e refl
+    where
+      -- the piece's permission, if the entry says of piece i what `says` has
+      asked : (ℕ → ℕ) → ℕ → ℕ
+      asked says i = if inRange q (b * 8192 + i * 512) then q .permission else says i
+
+      told : (says : ℕ → ℕ) → ((i k : ℕ) → i < 16 → b * 8192 + i * 512 ≤ k → k < b * 8192 + i * 512 + 512 → permOf (found F m e k) ≡ says i)
+          → needsPage (formIn F m q false 0 e b) e ≡ false
+      told says t =
+          no-page e _ _
+          (known-form paw first pages m q low e g b (asked says) (pack 4 (asked says) 16 0)
+          (λ i k u lo hi. ap₂ (λ (x : Bool) (p : ℕ). if x then q .permission else p) (h i k u lo hi) (t i k u lo hi)) refl)
+
+      go : (x : Entry) → e ≡ x → needsPage (formIn F m q false 0 e b) e ≡ false
+      go (flat p) z = told (λ i. p) (λ i k u lo hi. rw z)
+      go (pieces x) z = told (digit 4 x) (λ i k u lo hi. let y : k % 8192 / 512 ≡ i = omega arith in rw z (ap (digit 4 x) y))
+      go (table t) z = table-none e (formIn F m q false 0 e b) (ap (needsPage wantTable) z)
+      go invalid z = told (λ i. 0) (λ i k u lo hi. rw z)
+
+-- a range of whole pieces: each piece lies in it or outside it
+in-or-out : (q : Request) → q .start % 0x20_0000 ≡ 0 → q .size % 0x20_0000 ≡ 0 → (p k : ℕ) → p * 512 ≤ k → k < p * 512 + 512 → inRange q k ≡ inRange q (p * 512)
+in-or-out q whole-start whole-size p k lo hi =
+    split (inRange q (p * 512))
+    (λ y. in-true q k (omega (arith, in-at q (p * 512) y)) (omega (arith, in-at q (p * 512) y)) ∙ sym y)
+    (λ y. split (leb (q .start) (p * 512 * 4096))
+    (λ l. above-false q k (omega (arith, out-above q (p * 512) y (leb-true (q .start) (p * 512 * 4096) l))) ∙ sym y)
+    (λ l. below-false q k (omega (arith, leb-false (q .start) (p * 512 * 4096) l)) ∙ sym y))
 
 -- ---- the count
 
@@ -196,3 +229,15 @@ module _ (f : code.Frame) (m : List ℕ) (q : Request) (root : ℕ) (r : Ranged 
       let y : lowBlock ≤ highBlock = omega (arith, some) in
       sym (whole-sum ∙ sum-both pagesAt lowBlock highBlock (gibs q * 32) (firstGib q * 32) low-touched (omega (arith, differ)) high-touched
       (λ k lo hi nl nh. other k (omega (arith, room)) nl nh))
+
+  -- a range of whole pieces takes no page: no piece is mixed that was not
+  pub count-none : q .start % 0x20_0000 ≡ 0 → q .size % 0x20_0000 ≡ 0 → 0 ≡ wholePages G m q root
+  count-none whole-start whole-size =
+      sym (whole-sum
+      ∙ sum-cong pagesAt (λ c. 0) (gibs q * 32) (firstGib q * 32) (λ c lo hi.
+      none c
+      (pieces-none (f .paw) (f .first .0) (length m / 512) m q (r .small) (entryAt G m root c) (r .rooted .good c (omega (arith, room))) c (λ i k u l h.
+      let y : (c * 16 + i) * 512 ≡ c * 8192 + i * 512 = omega arith in
+      in-or-out q whole-start whole-size (c * 16 + i) k (omega arith) (omega arith) ∙ ap (inRange q) y)))
+      ∙ sum-const 0 (gibs q * 32) (firstGib q * 32)
+      ∙ omega arith)

@@ -13,7 +13,8 @@ use range::pages::meets;
 use table::Frame;
 use table::PageNumber;
 ghost use mathlib.Core.Path.{_≡_};
-ghost use mathlib.Core.Bool.{false};
+ghost use mathlib.Core.Bool.{false, _&&_};
+ghost use lib.Dec.{eqb};
 ghost use Prim.Native.Nat.{_+_, _*_, _/_, _%_, _≤_, _<_};
 ghost use Rattle.range.specs.Kinds.{requestOf, Fair};
 ghost use Rattle.forms.specs.Kinds.{GibIs, Ranged, wholePages};
@@ -116,11 +117,21 @@ pub fn new_page(f: Frame, words: &[u64], q: Request, root: PageNumber, b: u64) -
     }
 }
 
-// How many new pages the whole edit takes: only the blocks at the two ends of the range can take one.
+// The range begins and ends between pieces.
+fn whole_pieces(q: Request) -> bool
+    ensures { λ r. ⌜ r ≡ (eqb (q .start .0 % 0x20_0000) 0 && eqb (q .size % 0x20_0000) 0) ⌝ }
+{
+    (q.start.0 % 0x20_0000 == 0) & (q.size % 0x20_0000 == 0)
+}
+
+// How many new pages the whole edit takes: only the blocks at the two ends of the range can take one, and those of whole pieces take none.
 pub fn new_pages(f: Frame, words: &[u64], q: Request, root: PageNumber) -> u64
     requires { ⌜ Ranged (frameOf f (now words)) (now words) (requestOf q) (root .0) ⌝ }
     ensures { λ r. ⌜ (r ≡ wholePages (frameOf f (now (words .entry))) (now (words .entry)) (requestOf q) (root .0)) × (r ≤ 2) ⌝ }
 {
+    if whole_pieces(q) {
+        return 0;
+    }
     let low = q.start.0 / 0x200_0000;
     let high = (q.start.0 + q.size - 1) / 0x200_0000;
     let at_low = new_page(f, words, q, root, low);
