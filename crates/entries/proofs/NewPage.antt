@@ -5,84 +5,22 @@ use mathlib.Core.List.{List, [], _∷_, _++_}
 use Prim.Native.Nat.{ℕ, zero, suc, _+_, _-_, _*_, _/_, _≤_, _<_}
 use native.Mathlib.Omega.{arith}
 use lib.ListN.{length}
-use Rattle.entries.proofs.Runs.{run-none, run-on, run-off, run-whole, went-whole, went-cut, joined-turn, joined-end}
+use Rattle.entries.proofs.Runs.{run-none, run-on, run-off, went-whole, went-cut, joined-end}
 use Rattle.entries.specs.Pages.{Plain, newRun}
 use Rattle.entries.specs.Rows.{fillStores}
 use Rattle.entries.specs.Run.{whole, out, run}
 use Rattle.entries.specs.declared.Budget.{Budget}
 use Rattle.entries.specs.declared.Went.{Went}
-use Rattle.forms.proofs.EntryLaws.{word-outside}
-use Rattle.forms.specs.Kinds.{spreadOf}
-use Rattle.model.specs.Entry.{Entry, flat}
-use Rattle.model.specs.Forms.{Request, inRange, l1Word}
+use Rattle.model.specs.Entry.{Entry}
+use Rattle.model.specs.Forms.{Request, l1Word}
 use Rattle.model.specs.Frame.{Frame, lent, indexOf}
 use Rattle.model.specs.Numbers.{joined}
 use Rattle.model.specs.Stores.{Store, storeAt, newTable}
 use Rattle.table.specs.Views.{frameOf}
 use Rattle.theory.specs.Rooted.{Good}
 use Rattle.laws.proofs.Lists.{joined-append, joined-cong}
-use Rattle.entries.proofs.Places.{Put, frame-same, index-next, l1-plain, put-one, store-at, lent-same, good-same}
+use Rattle.entries.proofs.Places.{frame-same, index-next, l1-plain, store-at, lent-same, good-same}
 use Rattle.table.specs.declared.Frame as code
-
--- the entries from .. i are done, and the rest up to `to` decides the whole
-pub record New (f : code.Frame) (q : Request) (e : Entry) (b new : ℕ) (m0 : List ℕ) (left : Budget) (from to : ℕ) (m : List ℕ) (more : Budget) (i : ℕ) : Type 0 where
-  pub fits : to ≤ 512
-  pub past : from ≤ i
-  pub few : i ≤ to
-  pub size : length m ≡ length m0
-  pub rest : run left (newRun (frameOf f m0) m0 q e b new (to - from) from) m0 ≡ run more (newRun (frameOf f m0) m0 q e b new (to - i) i) m
-
-module _ {f : code.Frame} {q : Request} {e : Entry} {b new : ℕ} {m0 : List ℕ} {left : Budget} {from to : ℕ} where
-  pub new-start : to ≤ 512 → from ≤ to → New f q e b new m0 left from to m0 left from
-  new-start fits h = record { fits = fits; past = omega arith; few = h; size = refl; rest = refl }
-
-  module _ {m : List ℕ} {more : Budget} {i : ℕ} (s : New f q e b new m0 left from to m more i) where
-    abbrev H : Frame
-    H = frameOf f m0
-
-    abbrev gn : ℕ → List Store
-    gn k = storeAt H new k (l1Word H m0 q e b k) ∷ []
-
-    module _ (low : q .permission < 4) (pl : Plain e) (ln : lent H new ≡ true) (h : i < to) (r : Went) (m′ : List ℕ)
-        (said : out (r .all) (r .left) m′ ≡ run more (storeAt (frameOf f m) new i (l1Word (frameOf f m) m q e b i) ∷ []) m) where
-      step-new : out (r .all) (r .left) m′ ≡ run more (gn i) m
-      step-new =
-          said
-          ∙ ap (λ (X : Frame). run more (storeAt X new i (l1Word X m q e b i) ∷ []) m) (frame-same f m m0 (s .size))
-          ∙ ap (λ (w : ℕ). run more (storeAt H new i w ∷ []) m) (l1-plain (f .paw) (f .first .0) m0 q low b m0 m e i pl)
-
-      turn-new : run more (newRun H m0 q e b new (to - i) i) m ≡ run more (gn i ++ newRun H m0 q e b new (to - (i + 1)) (i + 1)) m
-      turn-new = ap (λ (ss : List Store). run more ss m) (joined-turn gn to i h)
-
-      pub new-cut : not (r .all) ≡ true → out (r .all) (r .left) m′ ≡ run left (newRun H m0 q e b new (to - from) from) m0
-      new-cut t =
-          let z = went-cut r m′ t in
-          z ∙ sym (s .rest ∙ turn-new ∙ run-off more (gn i) m (sym z ∙ step-new) (newRun H m0 q e b new (to - (i + 1)) (i + 1)))
-
-      pub new-next : not (r .all) ≡ false → New f q e b new m0 left from to m′ (r .left) (i + 1)
-      new-next t =
-          let z = went-whole r m′ t in
-          let wrote : Put H m m′ new i (l1Word H m0 q e b i)
-          = put-one (f .paw) (f .first .0) m0 m (s .size) new i (l1Word H m0 q e b i) ln (omega (arith, s .fits)) m′ (run-whole more (gn i) m (r .left) m′ (sym step-new ∙ z) .1) in
-          record {
-            fits = s .fits;
-            past = omega (arith, s .past);
-            few = omega arith;
-            size = wrote .size ∙ s .size;
-            rest = s .rest ∙ turn-new ∙ run-on more (gn i) m (sym z ∙ step-new) (newRun H m0 q e b new (to - (i + 1)) (i + 1));
-          }
-
-    pub new-end : to ≤ i → whole more m ≡ run left (newRun H m0 q e b new (to - from) from) m0
-    new-end h =
-        let z : to - i ≡ 0 = omega arith in
-        sym (s .rest ∙ ap (λ (ss : List Store). run more ss m) (joined-end gn (to - i) i z) ∙ run-none more m)
-
-    -- what the code asks of the block's entry and of the new page, at every turn
-    pub new-good : Plain e → Good H m0 e → Good (frameOf f m) m e
-    new-good pl g = good-same f m0 m (s .size) e pl g
-
-    pub new-lent : lent H new ≡ true → lent (frameOf f m) new ≡ true
-    new-lent h = lent-same f m0 m (s .size) new h
 
 module _ (f : code.Frame) (q : Request) (low : q .permission < 4) (e : Entry) (pl : Plain e) (b new : ℕ) (m0 : List ℕ) where
   -- the stores of a run follow from the block's entry, and not from the memory
@@ -106,17 +44,70 @@ module _ (f : code.Frame) (q : Request) (low : q .permission < 4) (e : Entry) (p
       ∙ ap (λ (l : List Store). joined g (from - 0) 0 ++ l)
       (ap (joined g ((to - from) + (512 - to))) v ∙ joined-append g (to - from) (512 - to) from ∙ ap (λ (k : ℕ). joined g (to - from) from ++ joined g (512 - to) k) w)
 
--- ---- entries outside the range, of a block of one permission: all are the same word
+-- the entries from .. i are done, and the rest up to `to` decides the whole
+pub record New (f : code.Frame) (q : Request) (e : Entry) (b new : ℕ) (m0 : List ℕ) (left : Budget) (from to : ℕ) (m : List ℕ) (more : Budget) (i : ℕ) : Type 0 where
+  pub fits : to ≤ 512
+  pub past : from ≤ i
+  pub few : i ≤ to
+  pub size : length m ≡ length m0
+  pub rest : run left (newRun (frameOf f m0) m0 q e b new (to - from) from) m0 ≡ run more (newRun (frameOf f m0) m0 q e b new (to - i) i) m
 
-module _ (f : code.Frame) (m : List ℕ) (q : Request) (low : q .permission < 4) (p : ℕ) (small : p < 4) (b new : ℕ) where
-  pub fill-run : (n i : ℕ) → i + n ≤ 512 → ((k : ℕ) → b * 8192 + i * 16 ≤ k → k < b * 8192 + i * 16 + n * 16 → inRange q k ≡ false)
-      → fillStores (spreadOf p) n (indexOf (frameOf f m) new i) ≡ newRun (frameOf f m) m q (flat p) b new n i
+module _ {f : code.Frame} {q : Request} {e : Entry} {b new : ℕ} {m0 : List ℕ} {left : Budget} {from to : ℕ} where
+  pub new-start : to ≤ 512 → from ≤ to → New f q e b new m0 left from to m0 left from
+  new-start fits h = record { fits = fits; past = omega arith; few = h; size = refl; rest = refl }
+
+  module _ {m : List ℕ} {more : Budget} {i : ℕ} (s : New f q e b new m0 left from to m more i) where
+    abbrev H : Frame
+    H = frameOf f m0
+
+    -- a turn that stores n entries
+    module _ (n : ℕ) (low : q .permission < 4) (pl : Plain e) (h : i + n ≤ to) (r : Went) (m′ : List ℕ)
+        (said : out (r .all) (r .left) m′ ≡ run more (newRun (frameOf f m) m q e b new n i) m) where
+      step-new : out (r .all) (r .left) m′ ≡ run more (newRun H m0 q e b new n i) m
+      step-new = said ∙ ap (λ (ss : List Store). run more ss m) (run-same f q low e pl b new m0 m (s .size) n i)
+
+      turn-new : run more (newRun H m0 q e b new (to - i) i) m ≡ run more (newRun H m0 q e b new n i ++ newRun H m0 q e b new (to - (i + n)) (i + n)) m
+      turn-new =
+          let u : to - i ≡ n + (to - (i + n)) = omega arith in
+          ap (λ (k : ℕ). run more (newRun H m0 q e b new k i) m) u
+          ∙ ap (λ (ss : List Store). run more ss m) (joined-append (λ k. storeAt H new k (l1Word H m0 q e b k) ∷ []) n (to - (i + n)) i)
+
+      pub new-cut : not (r .all) ≡ true → out (r .all) (r .left) m′ ≡ run left (newRun H m0 q e b new (to - from) from) m0
+      new-cut t =
+          let z = went-cut r m′ t in
+          z ∙ sym (s .rest ∙ turn-new ∙ run-off more (newRun H m0 q e b new n i) m (sym z ∙ step-new) (newRun H m0 q e b new (to - (i + n)) (i + n)))
+
+      pub new-next : not (r .all) ≡ false → length m′ ≡ length m → New f q e b new m0 left from to m′ (r .left) (i + n)
+      new-next t len =
+          let z = went-whole r m′ t in
+          record {
+            fits = s .fits;
+            past = omega (arith, s .past);
+            few = h;
+            size = len ∙ s .size;
+            rest = s .rest ∙ turn-new ∙ run-on more (newRun H m0 q e b new n i) m (sym z ∙ step-new) (newRun H m0 q e b new (to - (i + n)) (i + n));
+          }
+
+    pub new-end : to ≤ i → whole more m ≡ run left (newRun H m0 q e b new (to - from) from) m0
+    new-end h =
+        let z : to - i ≡ 0 = omega arith in
+        sym (s .rest ∙ ap (λ (ss : List Store). run more ss m) (joined-end (λ k. storeAt H new k (l1Word H m0 q e b k) ∷ []) (to - i) i z) ∙ run-none more m)
+
+    -- what the code asks of the block's entry and of the new page, at every turn
+    pub new-good : Plain e → Good H m0 e → Good (frameOf f m) m e
+    new-good pl g = good-same f m0 m (s .size) e pl g
+
+    pub new-lent : lent H new ≡ true → lent (frameOf f m) new ≡ true
+    new-lent h = lent-same f m0 m (s .size) new h
+
+-- ---- entries that are all one word
+
+module _ (F : Frame) (m : List ℕ) (q : Request) (e : Entry) (b new w : ℕ) where
+  pub fill-run : (n i : ℕ) → ((k : ℕ) → i ≤ k → k < i + n → w ≡ l1Word F m q e b k) → fillStores w n (indexOf F new i) ≡ newRun F m q e b new n i
   unfolding joined
-  fill-run zero i h o = refl
-  fill-run (suc n) i h o =
-      let word : spreadOf p ≡ l1Word (frameOf f m) m q (flat p) b i
-      = word-outside (f .paw) (f .first .0) (length m / 512) m q low (flat p) small b i (omega arith) (omega arith) (λ k lo hi. o k lo (omega arith)) in
-      let next : suc (indexOf (frameOf f m) new i) ≡ indexOf (frameOf f m) new (suc i) = index-next (frameOf f m) new i in
+  fill-run zero i o = refl
+  fill-run (suc n) i o =
+      let next : suc (indexOf F new i) ≡ indexOf F new (suc i) = index-next F new i in
       ap₂ (λ (x y : List Store). x ++ y)
-      (store-at (frameOf f m) new i (spreadOf p) (indexOf (frameOf f m) new i) refl ∙ ap (λ (w : ℕ). storeAt (frameOf f m) new i w ∷ []) word)
-      (ap (fillStores (spreadOf p) n) next ∙ fill-run n (suc i) (omega arith) (λ k lo hi. o k (omega arith) (omega arith)))
+      (store-at F new i w (indexOf F new i) refl ∙ ap (λ (x : ℕ). storeAt F new i x ∷ []) (o i (omega arith) (omega arith)))
+      (ap (fillStores w n) next ∙ fill-run n (suc i) (λ k lo hi. o k (omega arith) (omega arith)))

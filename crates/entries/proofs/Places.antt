@@ -87,7 +87,7 @@ module _ (paw first : ℕ) (m0 : List ℕ) where
               (λ z. put-other-page F m p i w x j (eqb-false x p z) lp lx h u);
         }
 
-    pub put-one : (m′ : List ℕ) → m′ ≡ apply (storeAt F p i w ∷ []) m → Put F m m′ p i w
+    put-one : (m′ : List ℕ) → m′ ≡ apply (storeAt F p i w ∷ []) m → Put F m m′ p i w
     put-one m′ e = subst (λ (x : List ℕ). Put F m x p i w) (sym (e ∙ apply-one F p i w m)) put-set
 
     pub put-changed : (m′ : List ℕ) → m′ ≡ apply (ifChanged F m p i w) m → Put F m m′ p i w

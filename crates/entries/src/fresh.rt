@@ -6,7 +6,6 @@ use crate::rows::fill;
 use forms::words::after_word;
 use forms::words::old_word;
 use forms::words::page_at;
-use forms::words::spread;
 use range::Place;
 use range::Request;
 use range::pages::first_entry;
@@ -16,17 +15,18 @@ use table::Frame;
 use table::PageNumber;
 ghost use mathlib.Core.Path.{_≡_};
 ghost use mathlib.Core.Bool.{true};
-ghost use mathlib.Core.List.{[], _∷_};
-ghost use Prim.Native.Nat.{_+_, _-_, _*_, _≤_, _<_};
+ghost use mathlib.Core.List.{List, [], _∷_};
+ghost use Prim.Native.Nat.{ℕ, _+_, _-_, _*_, _≤_, _<_};
 ghost use Rattle.entries.specs.Pages.{Plain, newRun};
 ghost use Rattle.entries.specs.Run.{out, run};
 ghost use Rattle.range.specs.Kinds.{requestOf, Fair, Lies, Past};
 ghost use Rattle.model.specs.Forms.{l1Word};
+ghost use Rattle.forms.specs.Kinds.{oldWord};
+ghost use Rattle.model.specs.Frame as frame;
 ghost use Rattle.model.specs.Frame.{lent};
 ghost use Rattle.model.specs.Stores.{storeAt, newTable};
 ghost use Rattle.table.specs.Views.{frameOf, entryOf};
 ghost use Rattle.theory.specs.Rooted.{Good};
-ghost use Rattle.model.specs.Entry as entry;
 
 // L1 entry i of block b, in the new page.
 pub fn new_entry(
@@ -46,27 +46,6 @@ pub fn new_entry(
 {
     let at = page_at(f, words, new) + i as usize;
     let word = after_word(f, words, q, e, b, i);
-    put(words, left, at, word)
-}
-
-// The same for an entry outside the range.
-pub fn old_entry(
-    f: Frame,
-    words: &mut [u64],
-    q: Request,
-    e: Entry,
-    b: u64,
-    new: PageNumber,
-    i: u64,
-    left: Budget,
-) -> Went
-    requires { ⌜ (b < 512) × (i < 512) × Fair q × Good (frameOf f (now words)) (now words) (entryOf e) × (lent (frameOf f (now words)) (new .0) ≡ true) × Lies (requestOf q) (b * 8192 + i * 16) 16 Place.Outside ⌝ }
-    ensures { λ r. ⌜ out (r .all) (r .left) (now (words .exit))
-        ≡ run left (storeAt (frameOf f (now (words .entry))) (new .0) i
-        (l1Word (frameOf f (now (words .entry))) (now (words .entry)) (requestOf q) (entryOf e) b i) ∷ []) (now (words .entry)) ⌝ }
-{
-    let at = page_at(f, words, new) + i as usize;
-    let word = old_word(f, words, e, i);
     put(words, left, at, word)
 }
 
@@ -101,39 +80,21 @@ pub fn new_entries(
     }
 }
 
-// The same for entries outside the range, one by one.
-pub fn old_loop(
-    f: Frame,
-    words: &mut [u64],
-    q: Request,
-    e: Entry,
-    b: u64,
-    new: PageNumber,
-    from: u64,
-    to: u64,
-    left: Budget,
-) -> Went
-    requires { ⌜ (b < 512) × (to ≤ 512) × (from ≤ to) × Fair q × Good (frameOf f (now words)) (now words) (entryOf e) × (lent (frameOf f (now words)) (new .0) ≡ true) × Plain (entryOf e)
-        × Lies (requestOf q) (b * 8192 + from * 16) ((to - from) * 16) Place.Outside ⌝ }
-    ensures { λ r. ⌜ out (r .all) (r .left) (now (words .exit))
-        ≡ run left (newRun (frameOf f (now (words .entry))) (now (words .entry)) (requestOf q) (entryOf e) b (new .0) (to - from) from) (now (words .entry)) ⌝ }
+// Where the entries from i on stop being the same word, if the edit leaves them as they are: `to` at the latest.
+pub fn same_until(e: Entry, i: u64, to: u64) -> u64
+    requires { ⌜ (i < to) × (to ≤ 512) ⌝ }
+    ensures { λ r. ⌜ (i < r) × (r ≤ to) × ((F : frame.Frame) (m : List ℕ) (k : ℕ) → i ≤ k → k < r → oldWord F m (entryOf e) k ≡ oldWord F m (entryOf e) i) ⌝ }
 {
-    let mut more = left;
-    for i in from..to {
-        let went = old_entry(f, words, q, e, b, new, i, more);
-        if !went.all {
-            return went;
-        }
-        let rest = went.left;
-        more = rest;
-    }
-    Went {
-        all: true,
-        left: more,
+    let piece = (i / 32 + 1) * 32;
+    match e {
+        Entry::Flat(_) => to,
+        Entry::Pieces(_) => { if piece < to { piece } else { to } }
+        Entry::Table(_) => i + 1,
+        Entry::Invalid => to,
     }
 }
 
-// The same in a block of one permission, p: where the limit allows for all of them, they are filled without asking at each.
+// The same for entries outside the range that are all one word: where the limit allows for them, they are filled without asking at each.
 pub fn old_fill(
     f: Frame,
     words: &mut [u64],
@@ -143,27 +104,27 @@ pub fn old_fill(
     new: PageNumber,
     from: u64,
     to: u64,
-    p: u64,
     left: Budget,
 ) -> Went
-    requires { ⌜ (b < 512) × (to ≤ 512) × (from ≤ to) × Fair q × Good (frameOf f (now words)) (now words) (entryOf e) × (lent (frameOf f (now words)) (new .0) ≡ true) × Plain (entryOf e)
-        × Lies (requestOf q) (b * 8192 + from * 16) ((to - from) * 16) Place.Outside × (entryOf e ≡ entry.flat p) ⌝ }
+    requires { ⌜ (b < 512) × (to ≤ 512) × (from < to) × Fair q × Good (frameOf f (now words)) (now words) (entryOf e) × (lent (frameOf f (now words)) (new .0) ≡ true) × Plain (entryOf e)
+        × Lies (requestOf q) (b * 8192 + from * 16) ((to - from) * 16) Place.Outside × ((k : ℕ) → from ≤ k → k < to → oldWord (frameOf f (now words)) (now words) (entryOf e) k ≡ oldWord (frameOf f (now words)) (now words) (entryOf e) from) ⌝ }
     ensures { λ r. ⌜ out (r .all) (r .left) (now (words .exit))
         ≡ run left (newRun (frameOf f (now (words .entry))) (now (words .entry)) (requestOf q) (entryOf e) b (new .0) (to - from) from) (now (words .entry)) ⌝ }
 {
     let n = to - from;
     if left.more < n {
-        return old_loop(f, words, q, e, b, new, from, to, left);
+        return new_entries(f, words, q, e, b, new, from, to, left);
     }
+    let word = old_word(f, words, e, from);
     let at = page_at(f, words, new) + from as usize;
-    let rest = fill(words, at, n as usize, spread(p), left);
+    let rest = fill(words, at, n as usize, word, left);
     Went {
         left: rest,
         all: true,
     }
 }
 
-// The same in any block.
+// The same for any entries outside the range, a word at a time.
 pub fn old_entries(
     f: Frame,
     words: &mut [u64],
@@ -180,11 +141,21 @@ pub fn old_entries(
     ensures { λ r. ⌜ out (r .all) (r .left) (now (words .exit))
         ≡ run left (newRun (frameOf f (now (words .entry))) (now (words .entry)) (requestOf q) (entryOf e) b (new .0) (to - from) from) (now (words .entry)) ⌝ }
 {
-    match e {
-        Entry::Flat(p) => old_fill(f, words, q, e, b, new, from, to, p, left),
-        Entry::Pieces(_) => old_loop(f, words, q, e, b, new, from, to, left),
-        Entry::Table(_) => old_loop(f, words, q, e, b, new, from, to, left),
-        Entry::Invalid => old_loop(f, words, q, e, b, new, from, to, left),
+    let mut more = left;
+    let mut i = from;
+    while i < to {
+        let end = same_until(e, i, to);
+        let went = old_fill(f, words, q, e, b, new, i, end, more);
+        if !went.all {
+            return went;
+        }
+        let rest = went.left;
+        more = rest;
+        i = end;
+    }
+    Went {
+        all: true,
+        left: more,
     }
 }
 

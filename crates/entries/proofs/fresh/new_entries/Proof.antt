@@ -3,6 +3,7 @@ use Prim.Native.Nat.{_-_}
 use native.Mathlib.Omega.{arith}
 use Rattle.entries.proofs.NewPage.{New, new-start, new-next, new-cut, new-end, new-good, new-lent}
 use Rattle.range.specs.Kinds.{requestOf}
+use Rattle.model.specs.Numbers.{joined}
 use Rattle.table.specs.Views.{entryOf}
 use Rattle.entries.proofs.fresh.new_entries.Statement.{statement}
 use Rattle.entries.proofs.fresh.new_entries.Tie as tie
@@ -32,11 +33,12 @@ same-length : tie.Need-same-length Inv-loop μ-loop
 same-length c = c .before .before .before .before .new-entry .kept .1 .0 ∙ c .before .before .before .before .before .before .before .loop .inv .size
 
 returns : tie.Need-returns Inv-loop μ-loop
+unfolding joined
 returns c =
     let r = c .before .before .before .before .new-entry in
     let l = c .before .before .before .before .before .before .before in
     let s = l .before .before in
-    new-cut (l .loop .inv) (s .pre .3 .small) (s .pre .6) (s .pre .5) (c .before .before .before .before .before .before .loop-test .taken) (r .result) (r .last .1 .0) (r .ensures) (c .if1 .taken)
+    new-cut (l .loop .inv) 1 (s .pre .3 .small) (s .pre .6) (omega (arith, c .before .before .before .before .before .before .loop-test .taken)) (r .result) (r .last .1 .0) (r .ensures) (c .if1 .taken)
 
 add-i : tie.Need-add-i Inv-loop μ-loop
 add-i c = let s = c .before .before .before .before .before .before .before .before .loop .inv in omega arith
@@ -45,11 +47,12 @@ loop-less : tie.Need-loop-less Inv-loop μ-loop
 loop-less c = let s = c .before .before .before .before .before .before .before .before .loop .inv in omega arith
 
 loop-again : tie.Need-loop-again Inv-loop μ-loop
+unfolding joined
 loop-again c =
     let r = c .before .before .before .before .before .new-entry in
     let l = c .before .before .before .before .before .before .before .before in
     let s = l .before .before in
-    new-next (l .loop .inv) (s .pre .3 .small) (s .pre .6) (s .pre .5) (c .before .before .before .before .before .before .before .loop-test .taken) (r .result) (r .last .1 .0) (r .ensures) (c .before .if1 .left)
+    new-next (l .loop .inv) 1 (s .pre .3 .small) (s .pre .6) (omega (arith, c .before .before .before .before .before .before .before .loop-test .taken)) (r .result) (r .last .1 .0) (r .ensures) (c .before .if1 .left) (r .kept .1 .0)
 
 same-length-2 : tie.Need-same-length-2 Inv-loop μ-loop
 same-length-2 c = c .before .loop .inv .size

@@ -1,75 +1,90 @@
-use mathlib.Core.Path.{refl}
-use borrow.Author.Needs.{needs}
+-- `entries::fresh::old_entries` meets its contract: a turn fills the entries that are one word, and the rest decides the whole.
+use mathlib.Core.Path.{_≡_, _∙_}
+use Prim.Native.Nat.{_+_, _-_}
+use native.Mathlib.Omega.{arith}
+use Rattle.range.specs.Kinds.{requestOf}
+use Rattle.table.specs.Views.{entryOf}
+use Rattle.entries.proofs.NewPage.{New, new-start, new-next, new-cut, new-end, new-good, new-lent}
 use Rattle.entries.proofs.fresh.old_entries.Statement.{statement}
 use Rattle.entries.proofs.fresh.old_entries.Tie as tie
 
-enum-known-e : tie.Need-enum-known-e
-enum-known-e c = search needs
+abbrev Inv-loop : tie.InvT-loop
+Inv-loop f words₀ q e b new from to more₀ i₀ words more i = New f (requestOf q) (entryOf e) b (new .0) words₀ more₀ from to words more i
 
-old-fill-requires : tie.Need-old-fill-requires
+abbrev μ-loop : tie.MeasureT-loop
+μ-loop f words₀ q e b new from to more₀ i₀ words more i = to - i
+
+loop-holds : tie.Need-loop-holds Inv-loop μ-loop
+loop-holds c = new-start (c .before .pre .1) (c .before .pre .2)
+
+same-until-requires : tie.Need-same-until-requires Inv-loop μ-loop
+same-until-requires c κs = (c .loop-test .taken, c .before .before .before .pre .1)
+
+old-fill-requires : tie.Need-old-fill-requires Inv-loop μ-loop
 old-fill-requires c κs =
-    let s = c .before .before .before .before .before in
-    (s .pre .0, s .pre .1, s .pre .2, s .pre .3, rw (c .before .before .e .given .1) at (s .pre .4), s .pre .5, tt, s .pre .7, refl)
+    let u = c .before in
+    let l = u .before .before in
+    let s = l .before .before in
+    let inv = l .loop .inv in
+    let end = u .same-until .ensures in (
+      s .pre .0,
+      omega (arith, end .1, s .pre .1),
+      end .0,
+      s .pre .3,
+      new-good inv (s .pre .6) (s .pre .4),
+      new-lent inv (s .pre .5),
+      s .pre .6,
+      λ k lo hi. s .pre .7 k (omega (arith, inv .past)) (omega (arith, inv .past, end .0, end .1)),
+      λ k lo hi. end .2 _ _ k lo hi,
+    )
 
-enum-told : tie.Need-enum-told
-enum-told c = search needs
+same-length : tie.Need-same-length Inv-loop μ-loop
+same-length c =
+    let o = c .before .before .before .before in
+    o .old-fill .kept .1 .0 ∙ o .before .before .before .before .loop .inv .size
 
-old-loop-requires : tie.Need-old-loop-requires
-old-loop-requires c κs = search needs
+returns : tie.Need-returns Inv-loop μ-loop
+returns c =
+    let o = c .before .before .before .before in
+    let u = o .before .before in
+    let l = u .before .before in
+    let s = l .before .before in
+    new-cut (l .loop .inv) (u .same-until .result - l .loop .i) (s .pre .3 .small) (s .pre .6) (omega (arith, u .same-until .ensures .0, u .same-until .ensures .1)) (o .old-fill .result) (o .old-fill .last .1 .0)
+    (o .old-fill .ensures) (c .if1 .taken)
 
-enum-told-2 : tie.Need-enum-told-2
-enum-told-2 c = search needs
+loop-less : tie.Need-loop-less Inv-loop μ-loop
+loop-less c =
+    let u = c .before .before .before .before .before .before .before in
+    omega (arith, u .same-until .ensures .0, u .same-until .ensures .1)
 
-old-loop-requires-2 : tie.Need-old-loop-requires-2
-old-loop-requires-2 c κs = search needs
+loop-again : tie.Need-loop-again Inv-loop μ-loop
+loop-again c =
+    let o = c .before .before .before .before .before in
+    let u = o .before .before in
+    let l = u .before .before in
+    let s = l .before .before in
+    let z : l .loop .i + (u .same-until .result - l .loop .i) ≡ u .same-until .result = omega (arith, u .same-until .ensures .0) in
+    rw z at (new-next (l .loop .inv) (u .same-until .result - l .loop .i) (s .pre .3 .small) (s .pre .6) (omega (arith, u .same-until .ensures .0, u .same-until .ensures .1)) (o .old-fill .result) (o .old-fill .last .1 .0)
+    (o .old-fill .ensures) (c .before .if1 .left) (o .old-fill .kept .1 .0))
 
-enum-told-3 : tie.Need-enum-told-3
-enum-told-3 c = search needs
+same-length-2 : tie.Need-same-length-2 Inv-loop μ-loop
+same-length-2 c = c .before .loop .inv .size
 
-old-loop-requires-3 : tie.Need-old-loop-requires-3
-old-loop-requires-3 c κs = search needs
-
-same-length : tie.Need-same-length
-same-length c = search needs
-
-returns : tie.Need-returns
-returns c = rw (c .before .before .before .before .before .e .given .1) (c .before .before .old-fill .ensures)
-
-same-length-2 : tie.Need-same-length-2
-same-length-2 c = search needs
-
-returns-2 : tie.Need-returns-2
-returns-2 c = search needs
-
-same-length-3 : tie.Need-same-length-3
-same-length-3 c = search needs
-
-returns-3 : tie.Need-returns-3
-returns-3 c = search needs
-
-same-length-4 : tie.Need-same-length-4
-same-length-4 c = search needs
-
-returns-4 : tie.Need-returns-4
-returns-4 c = search needs
+returns-2 : tie.Need-returns-2 Inv-loop μ-loop
+returns-2 c = new-end (c .before .loop .inv) (c .loop-test .left)
 
 pub old-entries-spec : {M : Type 1} → statement M
 old-entries-spec =
     tie.close
     (tie.spec
-    enum-known-e
+    Inv-loop
+    μ-loop
+    loop-holds
+    same-until-requires
     old-fill-requires
-    enum-told
-    old-loop-requires
-    enum-told-2
-    old-loop-requires-2
-    enum-told-3
-    old-loop-requires-3
     same-length
     returns
+    loop-less
+    loop-again
     same-length-2
-    returns-2
-    same-length-3
-    returns-3
-    same-length-4
-    returns-4)
+    returns-2)
