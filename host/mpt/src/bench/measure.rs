@@ -170,7 +170,7 @@ mod tests {
 
     #[test]
     fn every_edit_is_one_that_plain_does_in_full() {
-        for (work, stores) in work::edits().iter().zip([1, 544, 32, 32, 512]) {
+        for (work, stores) in work::edits().iter().zip([1, 544, 32, 32, 512, 513]) {
             let work::Call::Edit(edit) = work.call else { panic!("an edit") };
             let edited = PLAIN.monitor().edit(&mut work.table.clone(), edit).unwrap();
             assert_eq!((edited.stores, edited.all), (stores, true), "{}", work.name);

@@ -161,13 +161,15 @@ pub fn largest() -> Work {
     Work { name: "check", what: "whole table, 8 roots and 248 L1 pages", table, call: Call::Sound }
 }
 
-/// The five edits.
+/// The five edits that have a goal, and a sixth: after the first page of a GiB, its other blocks are by
+/// pieces, so that the next page is made in such a block.
 pub fn edits() -> Vec<Work> {
     let c = edit(0x4000_0000, 0x1000, Permission::Rw);
     let f = edit(0x4000_3000, 0x1000, Permission::Rx);
     let g = edit(0x4000_0000, 0x4000_0000, Permission::Rw);
     let h = edit(0x4020_0000, 0x20_0000, Permission::None);
     let all = edit(0, 1 << 34, Permission::None);
+    let next = edit(0x4200_0000, 0x1000, Permission::Rw);
     let work = |name, what, table, edit| Work { name, what, table, call: Call::Edit(edit) };
     vec![
         work("edit-page", "one page in a present L1 page (F)", after(bench(), &[c]), f),
@@ -175,6 +177,7 @@ pub fn edits() -> Vec<Work> {
         work("edit-gib", "one GiB (G)", after(bench(), &[c]), g),
         work("edit-piece", "one piece of 2 MiB (H)", after(bench(), &[c, g]), h),
         work("edit-all", "all 16 GiB at PAW 34", everywhere_rw(), all),
+        work("edit-next-page", "the next page, in a block by pieces", after(bench(), &[c]), next),
     ]
 }
 
