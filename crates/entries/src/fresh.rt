@@ -94,7 +94,7 @@ pub fn same_until(e: Entry, i: u64, to: u64) -> u64
     }
 }
 
-// The same for entries outside the range that are all one word: where the limit allows for them, they are filled without asking at each.
+// The entries from .. to, outside the range and all one word: where the limit allows for them, they are filled without asking at each.
 pub fn old_fill(
     f: Frame,
     words: &mut [u64],
@@ -124,7 +124,7 @@ pub fn old_fill(
     }
 }
 
-// The same for any entries outside the range, a word at a time.
+// The entries from .. to, outside the range: those that are one word at a time.
 pub fn old_entries(
     f: Frame,
     words: &mut [u64],
