@@ -5,7 +5,6 @@ use Prim.Native.Nat.{ℕ, _+_, _*_, _%_, _^_}
 use lib.Dec.{eqb}
 use lib.ListN.{getD}
 use Rattle.model.specs.Numbers.{if_then_else_}
-use Rattle.model.specs.Layout.{rv64}
 use Rattle.model.specs.Frame.{Frame, frameOk}
 use Rattle.model.specs.Access.{Access, fetch, load, store, Kind, itself, tableRead, update, Answer, refused, allowed, fault}
 use Rattle.model.specs.Lookup.{Privilege, machine, supervisor, user, lookup}
@@ -18,8 +17,9 @@ use Rattle.api.specs.declared.What.{What}
 use Rattle.api.specs.declared.What.the-variants as what
 use Rattle.api.specs.declared.Grant.{Grant}
 use Rattle.api.specs.declared.Grant.the-variants as grant
-use Rattle.table.specs.Views.{privilegeOf, kindOf, permissionNumber}
+use Rattle.types.specs.Views.{privilegeOf, kindOf, permissionNumber}
 use Rattle.monitor.specs.Edits.{asked}
+use Rattle.table.specs.Board.{board}
 
 -- ---- what is asked
 
@@ -98,7 +98,7 @@ doneWord o = replyWord (o .reply) (o .fence) 0
 -- ---- the calls
 
 abbrev pub frameIn : ℕ → ℕ → ℕ → Frame
-frameIn paw first pages = record { layout = rv64; paw = paw; first = first; pages = pages }
+frameIn paw first pages = record { layout = board; paw = paw; first = first; pages = pages }
 
 module _ (F : Frame) (m : List ℕ) where
   abbrev pub lookupWord : ℕ → Named Privilege → Named Kind → ℕ → ℕ

@@ -4,20 +4,21 @@ use crate::What;
 use crate::Who;
 use monitor::Outcome;
 use monitor::Reply;
-use table::Access;
-use table::Answer;
-use table::Fence;
-use table::Kind;
-use table::Permission;
-use table::Privilege;
-use table::number;
-use table::rights;
+use types::Access;
+use types::Answer;
+use types::Fence;
+use types::Kind;
+use types::Permission;
+use types::Privilege;
+use types::number;
+use types::rights;
+use table::board::Word;
 ghost use mathlib.Core.Path.{_≡_};
 ghost use Prim.Native.Nat.{ℕ, _<_, _^_};
 ghost use lib.ListN.{getD};
 ghost use Rattle.model.specs.Numbers.{if_then_else_};
 ghost use Rattle.model.specs.Access.{fault, causeOf, originalOf};
-ghost use Rattle.table.specs.Views.{kindOf, answerOf, fenceOf};
+ghost use Rattle.types.specs.Views.{kindOf, answerOf, fenceOf};
 ghost use Rattle.slots.specs.Outcomes.{replyOf};
 ghost use Rattle.api.specs.Codes.{privilegeAt, kindAt, permissionAt, whoOf, whatOf, grantOf, answerWord, fenceWord, replyWord};
 
@@ -139,7 +140,7 @@ pub fn reply_word(reply: Reply, fence: Fence, register: u64) -> u64
 }
 
 // Slot s, and zero where there is none.
-pub fn slot_at(slots: [u64; 8], s: u64) -> u64
+pub fn slot_at(slots: [Word; 8], s: u64) -> Word
     ensures { λ r. ⌜ r ≡ getD slots s 0 ⌝ }
 {
     if s < 8 {

@@ -10,14 +10,16 @@ use crate::code::slot_at;
 use crate::code::what;
 use crate::code::who;
 use monitor::Outcome;
-use table::Address;
-use table::Frame;
-use table::Kind;
-use table::PageNumber;
-use table::Permission;
-use table::Privilege;
-use table::Sdid;
+use types::Address;
+use types::Frame;
+use types::Kind;
+use types::PageNumber;
+use types::Permission;
+use types::Privilege;
+use types::Sdid;
 use table::lent;
+use table::board::Word;
+use table::board::wide;
 ghost use mathlib.Core.Path.{_≡_};
 ghost use mathlib.Core.List.{List};
 ghost use Prim.Native.Nat.{ℕ, _/_};
@@ -25,6 +27,7 @@ ghost use lib.ListN.{length};
 ghost use Rattle.model.specs.Calls.{openSlot, closeSlot};
 ghost use Rattle.slots.specs.Outcomes.{outcomeOf};
 ghost use Rattle.api.specs.Codes.{privilegeAt, kindAt, permissionAt, openedWord, doneWord, frameIn, lookupWord, soundWord, editWord, editMemory};
+ghost use Rattle.table.specs.Board.{WORDS};
 
 // A privilege, a kind of access and a permission by their codes, if they name one.
 pub enum Who {
@@ -49,7 +52,7 @@ fn opened_word(o: Outcome, slot: u64) -> u64
     let reply = o.reply;
     let fence = o.fence;
     let slots = o.slots;
-    reply_word(reply, fence, slot_at(slots, slot))
+    reply_word(reply, fence, wide(slot_at(slots, slot)))
 }
 
 // What a close or an edit answers, in one word. The slots are not looked at.
@@ -65,13 +68,13 @@ fn done_word(o: Outcome) -> u64
 pub extern "C" fn mpt_lookup(
     paw: u64,
     first: u64,
-    words: &[u64],
-    mmpt: u64,
+    words: &[Word],
+    mmpt: Word,
     privilege: u64,
     kind: u64,
     address: u64,
 ) -> u64
-    ensures { λ r. ⌜ r ≡ lookupWord (frameIn paw first (length (now (words .entry)) / 512)) (now (words .entry)) mmpt (privilegeAt privilege) (kindAt kind) address ⌝ }
+    ensures { λ r. ⌜ r ≡ lookupWord (frameIn paw first (length (now (words .entry)) / WORDS)) (now (words .entry)) mmpt (privilegeAt privilege) (kindAt kind) address ⌝ }
 {
     let f = Frame {
         paw: paw,
@@ -90,8 +93,8 @@ pub extern "C" fn mpt_lookup(
 }
 
 #[no_mangle]
-pub extern "C" fn mpt_sound(paw: u64, first: u64, words: &[u64], slots: &[u64; 8]) -> u64
-    ensures { λ r. ⌜ r ≡ soundWord (frameIn paw first (length (now (words .entry)) / 512)) (now (words .entry)) (now (slots .entry)) ⌝ }
+pub extern "C" fn mpt_sound(paw: u64, first: u64, words: &[Word], slots: &[Word; 8]) -> u64
+    ensures { λ r. ⌜ r ≡ soundWord (frameIn paw first (length (now (words .entry)) / WORDS)) (now (words .entry)) (now (slots .entry)) ⌝ }
 {
     let f = Frame {
         paw: paw,
@@ -112,13 +115,13 @@ pub extern "C" fn mpt_sound(paw: u64, first: u64, words: &[u64], slots: &[u64; 8
 pub extern "C" fn mpt_open(
     paw: u64,
     first: u64,
-    words: &mut [u64],
-    slots: &[u64; 8],
+    words: &mut [Word],
+    slots: &[Word; 8],
     slot: u64,
     sdid: u64,
 ) -> u64
-    ensures { λ r. ⌜ (r ≡ openedWord (openSlot (frameIn paw first (length (now (words .entry)) / 512)) (now (words .entry)) (now (slots .entry)) slot sdid) slot)
-        × (now (words .exit) ≡ openSlot (frameIn paw first (length (now (words .entry)) / 512)) (now (words .entry)) (now (slots .entry)) slot sdid .memory) ⌝ }
+    ensures { λ r. ⌜ (r ≡ openedWord (openSlot (frameIn paw first (length (now (words .entry)) / WORDS)) (now (words .entry)) (now (slots .entry)) slot sdid) slot)
+        × (now (words .exit) ≡ openSlot (frameIn paw first (length (now (words .entry)) / WORDS)) (now (words .entry)) (now (slots .entry)) slot sdid .memory) ⌝ }
 {
     let f = Frame {
         paw: paw,
@@ -130,8 +133,8 @@ pub extern "C" fn mpt_open(
 }
 
 #[no_mangle]
-pub extern "C" fn mpt_close(paw: u64, first: u64, words: &[u64], slots: &[u64; 8], slot: u64) -> u64
-    ensures { λ r. ⌜ r ≡ doneWord (closeSlot (frameIn paw first (length (now (words .entry)) / 512)) (now (words .entry)) (now (slots .entry)) slot) ⌝ }
+pub extern "C" fn mpt_close(paw: u64, first: u64, words: &[Word], slots: &[Word; 8], slot: u64) -> u64
+    ensures { λ r. ⌜ r ≡ doneWord (closeSlot (frameIn paw first (length (now (words .entry)) / WORDS)) (now (words .entry)) (now (slots .entry)) slot) ⌝ }
 {
     let f = Frame {
         paw: paw,
@@ -146,16 +149,16 @@ pub extern "C" fn mpt_close(paw: u64, first: u64, words: &[u64], slots: &[u64; 8
 pub extern "C" fn mpt_edit(
     paw: u64,
     first: u64,
-    words: &mut [u64],
-    slots: &[u64; 8],
+    words: &mut [Word],
+    slots: &[Word; 8],
     slot: u64,
     start: u64,
     size: u64,
     permission: u64,
     limit: u64,
 ) -> u64
-    ensures { λ r. ⌜ (r ≡ editWord (frameIn paw first (length (now (words .entry)) / 512)) (now (words .entry)) (now (slots .entry)) slot start size (permissionAt permission) limit)
-        × (now (words .exit) ≡ editMemory (frameIn paw first (length (now (words .entry)) / 512)) (now (words .entry)) (now (slots .entry)) slot start size (permissionAt permission) limit) ⌝ }
+    ensures { λ r. ⌜ (r ≡ editWord (frameIn paw first (length (now (words .entry)) / WORDS)) (now (words .entry)) (now (slots .entry)) slot start size (permissionAt permission) limit)
+        × (now (words .exit) ≡ editMemory (frameIn paw first (length (now (words .entry)) / WORDS)) (now (words .entry)) (now (slots .entry)) slot start size (permissionAt permission) limit) ⌝ }
 {
     let f = Frame {
         paw: paw,

@@ -6,17 +6,17 @@ use io::write_all;
 use libc::STDOUT_FILENO;
 use monitor::Outcome;
 use monitor::Reply;
-use table::Access;
-use table::Address;
-use table::Answer;
-use table::Fence;
-use table::Frame;
-use table::Kind;
-use table::PageNumber;
-use table::Privilege;
-use table::Sdid;
-use table::number::of_cause;
-use table::number::of_refusal;
+use types::Access;
+use types::Address;
+use types::Answer;
+use types::Fence;
+use types::Frame;
+use types::Kind;
+use types::PageNumber;
+use types::Privilege;
+use types::Sdid;
+use types::number::of_cause;
+use types::number::of_refusal;
 ghost use Prim.Native.Nat.{_≤_, _<_};
 
 fn frame() -> Frame {

@@ -4,9 +4,8 @@ use mathlib.Core.Bool.{Bool, true, false, not, _&&_}
 use mathlib.Core.List.{List, [], _∷_, _++_}
 use Prim.Native.Nat.{ℕ, zero, suc, _+_, _*_, _-_, _≤_, _<_}
 use native.Mathlib.Omega.{arith}
-use native.Mathlib.Numerals.{add-one}
 use lib.Dec.{eqb, leb, ltb}
-use lib.ListN.{length, take, getD, set}
+use lib.ListN.{length, take}
 use lib.Seq.{getD-take}
 use borrow.Author.Tests.{le-leb, lt-leb, eq-eqb, ne-eqb}
 use Rattle.model.specs.Calls.{finished, rootOf, storeList, storeListWith}
@@ -19,26 +18,13 @@ use Rattle.laws.proofs.Choices.{split}
 use Rattle.model.specs.Fence.{noFence, domainFence, addressFence, inRoot, oneL1Store, fenceFor}
 use Rattle.model.specs.Forms.{Request, firstGib, forms}
 use Rattle.model.specs.Frame.{Frame, indexOf}
-use Rattle.model.specs.Layout.{rv64, gibBlocks}
+use Rattle.model.specs.Layout.{gibBlocks}
 use Rattle.model.specs.Numbers.{if_then_else_}
 use Rattle.model.specs.Register.{sdidOf}
 use Rattle.model.specs.Sound.{roots, freePages}
 use Rattle.model.specs.Stores.{Store, apply, newPages}
-use Rattle.table.specs.Stored.{storeOf, Steps}
 use Rattle.theory.proofs.Along.{apply-append}
 use Rattle.theory.proofs.NewPages.{same-pages}
-
--- ---- one store goes from limit k to limit k + 1
-
-go-on : (list : List Store) (m : List ℕ) (k : ℕ) (s : Store) → k < length list → getD list k (storeOf 0 0) ≡ s → apply (take (suc k) list) m ≡ set (apply (take k list) m) (s .at) (s .word)
-unfolding apply
-go-on [] m k s h e = absurd (omega arith)
-go-on (x ∷ xs) m zero s h e = ap (λ (y : Store). set m (y .at) (y .word)) e
-go-on (x ∷ xs) m (suc k) s h e = go-on xs (set m (x .at) (x .word)) k s (omega arith) e
-
-pub steps : (before after : List ℕ) (at word : ℕ) → after ≡ set before at word → Steps before after at word
-steps before after at word e list m k h b s =
-    e ∙ ap (λ (x : List ℕ). set x at word) b ∙ sym (go-on list m k (storeOf at word) h s) ∙ ap (λ (n : ℕ). apply (take n list) m) (sym (add-one k))
 
 -- ---- lists cut at a limit
 

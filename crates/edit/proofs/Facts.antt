@@ -7,6 +7,8 @@ use native.Mathlib.Omega.{arith}
 use lib.Dec.{eqb}
 use lib.ListN.{length, take, drop, length-take, take-append-drop}
 use Rattle.edit.specs.Kinds.{Encodes, Accepted, wholeList}
+use Rattle.entries.specs.Ahead.{Ahead}
+use Rattle.entries.proofs.Order.{ahead-of, ahead-start}
 use Rattle.entries.specs.Pages.{Plain}
 use Rattle.forms.proofs.EntryLaws.{after-small}
 use Rattle.laws.proofs.Choices.{split, and-true}
@@ -14,11 +16,9 @@ use Rattle.laws.proofs.Digits.{pack-lt}
 use Rattle.model.specs.Entry.{Entry, flat, pieces, table, invalid, encode}
 use Rattle.model.specs.Forms.{Request, Form, wantPieces, l1Word, wantFlat, wantTable, formIn, piecesAreOne, piecesInfo, forms, firstGib, gibs}
 use Rattle.model.specs.Frame.{Frame, lent, wordAt, blocks, space, boundsOk, frameOk}
-use Rattle.model.specs.Layout.{rv64}
 use Rattle.model.specs.Numbers.{if_then_else_}
 use Rattle.model.specs.Stores.{Store, storeAt, storeL2, ifChanged, ifChangedL2, sameTable, newTable, blockStores, newPages, linkTable}
 use Rattle.model.specs.Walk.{entryPage, l2Word}
-use Rattle.table.specs.Views.{frameOf}
 use Rattle.theory.specs.Rooted.{Good}
 use lib.Pow.{pow-mono}
 use Rattle.edit.proofs.Answers.{list-is}
@@ -28,7 +28,6 @@ use Rattle.laws.proofs.Times.{times, times-append}
 use Rattle.model.specs.Calls.{rootOf, storeList}
 use Rattle.model.specs.Sound.{roots, freePages, used}
 use Rattle.theory.proofs.Accepts.{Accept, to-accept, range-of, root-in}
-use Rattle.theory.proofs.Entries.{rv64-lawful}
 use Rattle.theory.proofs.Frames.{Ok, blocks-pos}
 use Rattle.theory.proofs.Free.{free-in, free-once}
 use Rattle.theory.proofs.Ranges.{touched-inside}
@@ -38,17 +37,19 @@ use Rattle.theory.proofs.Used.{pagesOf, links, used-measure}
 use Rattle.theory.proofs.WholeCall.{Edit, ok-of, sound-of, here-of}
 use Rattle.laws.proofs.Lists.{joined-cong}
 use Rattle.entries.proofs.Places.{changed-same, l1-plain}
-use Rattle.table.specs.declared.Frame as code
+use Rattle.types.specs.declared.Frame as code
+use Rattle.table.specs.Board.{board, WORDS, PIECES, frameOf}
+use Rattle.range.proofs.Lawful.{board-lawful}
 
 -- a form's entry fits a word
-pub form-encodes : (paw first pages : ℕ) (m : List ℕ) (q : Request) (low : q .permission < 4) (e : Entry) (g : Good (record { layout = rv64; paw = paw; first = first; pages = pages }) m e) (one : Bool) (p b : ℕ)
-    → p < 4 → Encodes (formIn (record { layout = rv64; paw = paw; first = first; pages = pages }) m q one p e b)
+pub form-encodes : (paw first pages : ℕ) (m : List ℕ) (q : Request) (low : q .permission < 4) (e : Entry) (g : Good (record { layout = board; paw = paw; first = first; pages = pages }) m e) (one : Bool) (p b : ℕ)
+    → p < 4 → Encodes (formIn (record { layout = board; paw = paw; first = first; pages = pages }) m q one p e b)
 unfolding formIn piecesInfo
 form-encodes paw first pages m q low e g true p b h = h
 form-encodes paw first pages m q low e g false p b h =
-    let F : Frame = record { layout = rv64; paw = paw; first = first; pages = pages } in
+    let F : Frame = record { layout = board; paw = paw; first = first; pages = pages } in
     split (piecesAreOne F m q e b)
-    (λ z. rw z (pack-lt 4 _ (λ i. after-small paw first pages m q low e g _) 16 0))
+    (λ z. rw z (pack-lt 4 _ (λ i. after-small paw first pages m q low e g _) PIECES 0))
     (λ z. rw z tt)
 
 -- ---- the stores of a block, from two memories that have the same of it
@@ -60,21 +61,21 @@ module _ (f : code.Frame) (m0 : List ℕ) (q : Request) (low : q .permission < 4
   new-same : (e : Entry) (new : ℕ) → Plain e → newTable F₀ m q e b new ≡ newTable F₀ m0 q e b new
   unfolding newTable
   new-same e new pl =
-      joined-cong (λ i. storeAt F₀ new i (l1Word F₀ m q e b i) ∷ []) (λ i. storeAt F₀ new i (l1Word F₀ m0 q e b i) ∷ []) 512 0
+      joined-cong (λ i. storeAt F₀ new i (l1Word F₀ m q e b i) ∷ []) (λ i. storeAt F₀ new i (l1Word F₀ m0 q e b i) ∷ []) WORDS 0
       (λ i lo hi. ap (λ (w : ℕ). storeAt F₀ new i w ∷ []) (l1-plain (f .paw) (f .first .0) m0 q low b m0 m e i pl))
 
   link-same : (e : Entry) (new : ℕ) → Plain e → linkTable F₀ m q root e b new ≡ linkTable F₀ m0 q root e b new
   unfolding linkTable
-  link-same e new pl = ap (λ (x : List Store). x ++ (storeL2 F₀ root b (encode rv64 (table new)) ∷ [])) (new-same e new pl)
+  link-same e new pl = ap (λ (x : List Store). x ++ (storeL2 F₀ root b (encode board (table new)) ∷ [])) (new-same e new pl)
 
   pub stores-same : l2Word F₀ m root b ≡ l2Word F₀ m0 root b → (fm : Form) (e : Entry) (new : ℕ)
-      → ((t i : ℕ) → e ≡ table t → i < 512 → wordAt F₀ m t i ≡ wordAt F₀ m0 t i)
+      → ((t i : ℕ) → e ≡ table t → i < WORDS → wordAt F₀ m t i ≡ wordAt F₀ m0 t i)
       → blockStores F₀ m q root fm e b new ≡ blockStores F₀ m0 q root fm e b new
   unfolding blockStores ifChangedL2 sameTable
-  stores-same same (wantFlat p) e new h = ap (λ (x : ℕ). if eqb x (encode rv64 (flat p)) then [] else storeL2 F₀ root b (encode rv64 (flat p)) ∷ []) same
-  stores-same same (wantPieces p) e new h = ap (λ (x : ℕ). if eqb x (encode rv64 (pieces p)) then [] else storeL2 F₀ root b (encode rv64 (pieces p)) ∷ []) same
+  stores-same same (wantFlat p) e new h = ap (λ (x : ℕ). if eqb x (encode board (flat p)) then [] else storeL2 F₀ root b (encode board (flat p)) ∷ []) same
+  stores-same same (wantPieces p) e new h = ap (λ (x : ℕ). if eqb x (encode board (pieces p)) then [] else storeL2 F₀ root b (encode board (pieces p)) ∷ []) same
   stores-same same wantTable (table t) new h =
-      joined-cong (λ i. ifChanged F₀ m t i (l1Word F₀ m q (table t) b i)) (λ i. ifChanged F₀ m0 t i (l1Word F₀ m0 q (table t) b i)) 512 0
+      joined-cong (λ i. ifChanged F₀ m t i (l1Word F₀ m q (table t) b i)) (λ i. ifChanged F₀ m0 t i (l1Word F₀ m0 q (table t) b i)) WORDS 0
       (λ i lo hi. changed-same (f .paw) (f .first .0) m0 q low b m0 m t i (omega arith) (h t i refl (omega arith)))
   stores-same same wantTable (flat p) new h = link-same (flat p) new tt
   stores-same same wantTable (pieces p) new h = link-same (pieces p) new tt
@@ -95,6 +96,8 @@ pub record Facts (f : code.Frame) (m0 : List ℕ) (q : Request) (root : ℕ) (fr
   pub once : (x : ℕ) → times x free ≤ 1
   pub room : newPages (frameOf f m0) m0 root (firstGib q * 32) (forms (frameOf f m0) m0 q root) ≤ length free
   pub few : length free ≤ 2 ^ 22
+  -- its whole list is ahead
+  pub start : Ahead m0 (wholeList (frameOf f m0) m0 q root free)
 
 module _ (f : code.Frame) (m0 : List ℕ) (q : Request) (root : ℕ) (free : List ℕ) where
   abbrev F : Frame
@@ -104,11 +107,20 @@ module _ (f : code.Frame) (m0 : List ℕ) (q : Request) (root : ℕ) (free : Lis
   take-times : (n : ℕ) (x : ℕ) (l : List ℕ) → times x (take n l) ≤ times x l
   take-times n x l = omega (arith, sym (times-append x (take n l) (drop n l)) ∙ ap (times x) (take-append-drop n l))
 
+  -- the list that the code makes is the model's
+  pub accepted-list : (a : Accepted F m0 q root free) → wholeList F m0 q root free ≡ storeList F m0 (a .slots) q
+  accepted-list a =
+      let k : Accept F (a .slots) q m0 = to-accept F (a .slots) q m0 (a .none) in
+      let E : Edit = record { F = F; lawful = board-lawful; slots = a .slots; q = q; low = a .small } in
+      ap₂ (λ (r : ℕ) (fr : List ℕ). wholeList F m0 q r fr) (a .isRoot) (a .areFree)
+      ∙ list-is F m0 (a .slots) q
+      (two-pages F (ok-of E m0 k) q m0 (rootOf F (a .slots) q) (a .small) (range-of F (a .slots) q m0 k) (roots F (a .slots)) (sound-of E m0 k) (root-in F (a .slots) q m0 k) (a .typed))
+
   pub facts : Accepted F m0 q root free → Facts f m0 q root free
   unfolding freePages space
   facts a =
       let k : Accept F (a .slots) q m0 = to-accept F (a .slots) q m0 (a .none) in
-      let E : Edit = record { F = F; lawful = rv64-lawful; slots = a .slots; q = q; low = a .small } in
+      let E : Edit = record { F = F; lawful = board-lawful; slots = a .slots; q = q; low = a .small } in
       let rs : List ℕ = roots F (a .slots) in
       let taken : List ℕ = used F m0 rs in
       let ok : Ok F = ok-of E m0 k in
@@ -132,16 +144,10 @@ module _ (f : code.Frame) (m0 : List ℕ) (q : Request) (root : ℕ) (free : Lis
         once = λ x. omega (arith, in-free x, free-once F taken x);
         room = subst (λ (r : ℕ). newPages F m0 r (firstGib q * 32) (forms F m0 q r) ≤ length free) (sym (a .isRoot)) (omega (arith, two, k .room, long));
         few = omega (arith, long);
+        start =
+            ahead-of (sym (accepted-list a))
+            (ahead-start (record { F = F; slots = a .slots; q = q; found = m0; typed = record { words = a .typed; permission = a .small }; accepted = a .none }));
       }
-
-  -- the list that the code makes is the model's
-  pub accepted-list : (a : Accepted F m0 q root free) → wholeList F m0 q root free ≡ storeList F m0 (a .slots) q
-  accepted-list a =
-      let k : Accept F (a .slots) q m0 = to-accept F (a .slots) q m0 (a .none) in
-      let E : Edit = record { F = F; lawful = rv64-lawful; slots = a .slots; q = q; low = a .small } in
-      ap₂ (λ (r : ℕ) (fr : List ℕ). wholeList F m0 q r fr) (a .isRoot) (a .areFree)
-      ∙ list-is F m0 (a .slots) q
-      (two-pages F (ok-of E m0 k) q m0 (rootOf F (a .slots) q) (a .small) (range-of F (a .slots) q m0 k) (roots F (a .slots)) (sound-of E m0 k) (root-in F (a .slots) q m0 k) (a .typed))
 
   pub root-lent : Accepted F m0 q root free → lent F root ≡ true
   unfolding entryPage

@@ -4,23 +4,25 @@ use mathlib.Core.Path.{_≡_, refl, sym, ap, ap₂, _∙_, subst, subst₂}
 use mathlib.Core.Bool.{Bool, true}
 use mathlib.Core.Logic.{⊎-elim}
 use mathlib.Core.List.{List, [], _∷_, _++_, append-assoc, headD, tail}
-use Prim.Native.Nat.{ℕ, suc, _+_, _*_, _/_, _≤_, _<_}
+use Prim.Native.Nat.{ℕ, zero, suc, _+_, _*_, _/_, _≤_, _<_}
 use native.Mathlib.Omega.{arith}
 use lib.ListN.{length, drop, length-append, length-drop}
-use Rattle.entries.proofs.Runs.{run-none, run-on, run-off, run-whole}
+use Rattle.entries.specs.Ahead.{Ahead}
+use Rattle.entries.proofs.Order.{Way, way-start, way-end, way-ahead, way-next, way-cut}
+use Rattle.entries.proofs.Runs.{run-whole}
 use Rattle.edit.specs.Kinds.{storesAt, Fresh, wholeList}
+use Rattle.edit.specs.Over.{storesOver}
 use Rattle.entries.specs.Run.{Out, whole, cut, run}
 use Rattle.entries.specs.declared.Budget.{Budget}
 use Rattle.forms.specs.declared.Gib.{Gib}
 use Rattle.forms.specs.Kinds.{formAt, GibIs}
 use Rattle.laws.proofs.Choices.{split}
 use Rattle.model.specs.Entry.{Entry, perm}
-use Rattle.model.specs.Forms.{Request, Form, inRange, after, formIn, gibFirst, gibIsOne, forms, firstGib, gibs}
+use Rattle.model.specs.Forms.{Request, Form, inRange, after, formIn, formsIn, gibFirst, gibIsOne, forms, firstGib, gibs}
 use Rattle.model.specs.Frame.{Frame, blocks, space}
 use Rattle.model.specs.Numbers.{if_then_else_}
 use Rattle.model.specs.Stores.{Store, apply, blockStores, needsPage, storesFrom, newPages}
 use Rattle.model.specs.Walk.{entryAt, walk}
-use Rattle.table.specs.Views.{frameOf}
 use Rattle.theory.proofs.Walks.{entry-word}
 use Rattle.theory.specs.Rooted.{Rooted}
 use native.Mathlib.Numerals.{add-one}
@@ -35,8 +37,9 @@ use Rattle.theory.proofs.Plans.{AllAt, FitsAll, Call}
 use Rattle.edit.proofs.Fronts.{drop-tail}
 use Rattle.entries.proofs.Places.{frame-same}
 use Rattle.edit.proofs.Facts.{Facts, stores-same}
-use Rattle.table.specs.declared.Frame as code
+use Rattle.types.specs.declared.Frame as code
 use Rattle.forms.specs.declared.Gib as gibs′
+use Rattle.table.specs.Board.{frameOf}
 
 module _ (f : code.Frame) (m0 : List ℕ) (q : Request) (root : ℕ) (free : List ℕ) (k : Facts f m0 q root free) (limit : Budget) where
   abbrev G : Frame
@@ -70,7 +73,7 @@ module _ (f : code.Frame) (m0 : List ℕ) (q : Request) (root : ℕ) (free : Lis
     pub named : AllAt (λ c fm. fm ≡ formOfBlock G m0 q root c) b post
     pub here : Here m b post (drop next free)
     pub taken : next ≤ length free
-    pub rest : run limit (wholeList G m0 q root free) m0 ≡ run left (storesFrom G m0 q root b post (drop next free)) m
+    pub way : Way limit m0 (wholeList G m0 q root free) left m (storesFrom G m0 q root b post (drop next free))
 
   pub going-start : Going m0 B 0 limit
   going-start =
@@ -85,7 +88,7 @@ module _ (f : code.Frame) (m0 : List ℕ) (q : Request) (root : ℕ) (free : Lis
             ap (λ (x : ℕ). formIn G m0 q (gibIsOne G m0 q root x (gibFirst G m0 q root x)) (gibFirst G m0 q root x) (entryAt G m0 root c) c) z);
         here = at-start callHere (k .sound) (forms-fit G (k .ok) q (k .low) root m0) free (k .unused) (k .once) (k .room);
         taken = omega arith;
-        rest = refl;
+        way = way-start refl (k .start);
       }
 
   -- ---- what such a memory has
@@ -129,6 +132,33 @@ module _ (f : code.Frame) (m0 : List ℕ) (q : Request) (root : ℕ) (free : Lis
           h .2,
         )
 
+    -- ---- the blocks ahead of one GiB
+
+    form-found : (gib : gibs′.Gib) (c : ℕ) → GibIs G m0 q root (c / 32) gib → formAt G m0 q root gib c ≡ formOfBlock G m0 q root c
+    form-found gib c gi =
+        ap (λ (x : Bool). formIn G m0 q x (gib .p) (entryAt G m0 root c) c) (gi .1)
+        ∙ ap (λ (x : ℕ). formIn G m0 q (gibIsOne G m0 q root (c / 32) x) x (entryAt G m0 root c) c) (gi .0)
+
+    -- their stores begin those of all blocks ahead
+    front : (gib : gibs′.Gib) (n : ℕ) (post : List Form) (c : ℕ) (fr : List ℕ) → n ≤ length post → AllAt (λ d fm. fm ≡ formOfBlock G m0 q root d) c post
+        → ((d : ℕ) → c ≤ d → d < c + n → GibIs G m0 q root (d / 32) gib) → (rest : List Store) × (storesFrom G m0 q root c post fr ≡ storesOver G m0 q root gib n c fr ++ rest)
+    unfolding storesFrom formsIn
+    front gib zero post c fr h named gi = (storesFrom G m0 q root c post fr, refl)
+    front gib (suc n) [] c fr h named gi = absurd (omega arith)
+    front gib (suc n) (fm ∷ post) c fr h named gi =
+        let is : fm ≡ formAt G m0 q root gib c = named .0 ∙ sym (form-found gib c (gi c (omega arith) (omega arith))) in
+        let left′ : List ℕ = if needsPage (formAt G m0 q root gib c) (entryAt G m0 root c) then tail fr else fr in
+        let more = front gib n post (suc c) left′ (omega arith) (named .1) (λ d lo hi. gi d (omega arith) (omega arith)) in
+        let new : List Store = storesAt G m0 q root gib c (headD fr 0) in (
+          more .0,
+          ap (λ (x : Form). storesFrom G m0 q root c (x ∷ post) fr) is ∙ ap (λ (l : List Store). new ++ l) (more .1) ∙ sym (append-assoc new (storesOver G m0 q root gib n (suc c) left′) (more .0)),
+        )
+
+    pub going-ahead : (gib : gibs′.Gib) (n : ℕ) → b + n ≤ B + gibs q * 32 → ((d : ℕ) → b ≤ d → d < b + n → GibIs G m0 q root (d / 32) gib) → Ahead m (storesOver G m0 q root gib n b (drop next free))
+    going-ahead gib n h gi =
+        let f = front gib n (s .post) b (drop next free) (omega (arith, fs-length, ap (λ (l : List Form). length l) (s .parts), length-append (s .pre) (s .post), s .at)) (s .named) gi in
+        way-ahead (s .way) _ (f .0) (f .1)
+
     -- ---- one more block
 
     module _ (open′ : b < B + gibs q * 32) (gib : gibs′.Gib) (gi : GibIs G m0 q root (b / 32) gib) where
@@ -140,9 +170,7 @@ module _ (f : code.Frame) (m0 : List ℕ) (q : Request) (root : ℕ) (free : Lis
 
       form-here : formAt G m q root gib b ≡ formOfBlock G m0 q root b
       form-here =
-          same-form G (k .ok) q (k .low) root m0 m after-same (gib .one) (gib .p) b in-blocks
-          ∙ ap (λ (x : Bool). formIn G m0 q x (gib .p) (entryAt G m0 root b) b) (gi .1)
-          ∙ ap (λ (x : ℕ). formIn G m0 q (gibIsOne G m0 q root (b / 32) x) x (entryAt G m0 root b) b) (gi .0)
+          same-form G (k .ok) q (k .low) root m0 m after-same (gib .one) (gib .p) b in-blocks ∙ form-found gib b gi
 
       stores-here : (new : ℕ) → storesAt G m q root gib b new ≡ blockStores G m0 q root (formOfBlock G m0 q root b) (entryAt G m0 root b) b new
       stores-here new =
@@ -196,12 +224,12 @@ module _ (f : code.Frame) (m0 : List ℕ) (q : Request) (root : ℕ) (free : Lis
               ∙ ap (λ (X : Frame). run left (storesAt X m q root gib b (headD fr 0)) m) (frame-same f m m0 size)
               ∙ ap (λ (l : List Store). run left l m) (stores-here (headD fr 0) ∙ ap (λ (x : Form). blockStores G m0 q root x e₀ b (headD fr 0)) (sym is-named))
 
-          turn : run left (storesFrom G m0 q root b (s .post) fr) m ≡ run left (ss ++ storesFrom G m0 q root (suc b) post′ (if needsPage fm e₀ then tail fr else fr)) m
+          parts : storesFrom G m0 q root b (s .post) fr ≡ ss ++ storesFrom G m0 q root (suc b) post′ (if needsPage fm e₀ then tail fr else fr)
           unfolding storesFrom
-          turn = ap (λ (l : List Form). run left (storesFrom G m0 q root b l fr) m) e
+          parts = ap (λ (l : List Form). storesFrom G m0 q root b l fr) e
 
           cut-of : {m′ : List ℕ} → o ≡ cut m′ → o ≡ run limit (wholeList G m0 q root free) m0
-          cut-of z = z ∙ sym (s .rest ∙ turn ∙ run-off left ss m (sym z ∙ step) _)
+          cut-of z = z ∙ way-cut (s .way) ss _ parts (sym z ∙ step)
 
           abbrev next′ : ℕ
           next′ = if needsPage (formAt (frameOf f m) m q root gib b) (entryAt (frameOf f m) m root b) then next + 1 else next
@@ -240,10 +268,9 @@ module _ (f : code.Frame) (m0 : List ℕ) (q : Request) (root : ℕ) (free : Lis
                     (at-next callHere (spot callHere (s .pre) fm post′ (s .parts ∙ ap (λ (l : List Form). s .pre ++ l) e) b (s .at))
                     (subst (FitsAll G (after G m0 q root) b) e (s .fits) .0) fr m here′));
                 taken = taken′;
-                rest =
-                    s .rest ∙ turn
-                    ∙ run-on left ss m (sym z ∙ step) (storesFrom G m0 q root (suc b) post′ (if needsPage fm e₀ then tail fr else fr))
-                    ∙ ap₂ (λ (c : ℕ) (x : List ℕ). run l (storesFrom G m0 q root c post′ x) m′) one pages-left;
+                way =
+                    subst₂ (λ (c : ℕ) (x : List ℕ). Way limit m0 (wholeList G m0 q root free) l m′ (storesFrom G m0 q root c post′ x)) one pages-left
+                    (way-next (s .way) ss _ parts (sym z ∙ step));
               }
 
       pub fresh : Fresh (frameOf f m) m q root gib b (headD (drop next free) 0)
@@ -262,5 +289,5 @@ module _ (f : code.Frame) (m0 : List ℕ) (q : Request) (root : ℕ) (free : Lis
     going-end h = go (s .post) refl
       where
         go : (post : List Form) → s .post ≡ post → whole left m ≡ run limit (wholeList G m0 q root free) m0
-        go [] e = sym (s .rest ∙ ap (λ (l : List Form). run left (storesFrom G m0 q root b l (drop next free)) m) e ∙ run-none left m)
+        go [] e = way-end (s .way) (ap (λ (l : List Form). storesFrom G m0 q root b l (drop next free)) e)
         go (fm ∷ post′) e = absurd (omega (arith, fs-length, ap (λ (l : List Form). length l) (s .parts), length-append (s .pre) (s .post), ap (λ (l : List Form). length l) e, s .at))

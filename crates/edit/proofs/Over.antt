@@ -22,14 +22,14 @@ use Rattle.model.specs.Frame.{Frame, blocks}
 use Rattle.model.specs.Numbers.{if_then_else_}
 use Rattle.model.specs.Stores.{Store, blockStores, needsPage, storesFrom, newPages}
 use Rattle.model.specs.Walk.{entryAt}
-use Rattle.table.specs.Views.{frameOf}
 use Rattle.theory.proofs.Forms.{same-form}
 use Rattle.theory.proofs.Walks.{entry-word}
 use Rattle.edit.proofs.Fronts.{drop-tail}
 use Rattle.entries.proofs.Places.{frame-same}
 use Rattle.edit.proofs.Facts.{Facts, stores-same}
 use Rattle.edit.proofs.Going.{Going, after-same, going-cut, going-next, size}
-use Rattle.table.specs.declared.Frame as code
+use Rattle.types.specs.declared.Frame as code
+use Rattle.table.specs.Board.{frameOf}
 
 module _ (f : code.Frame) (m0 : List ℕ) (q : Request) (root : ℕ) (free : List ℕ) (k : Facts f m0 q root free) (limit : Budget) where
   abbrev G : Frame

@@ -14,12 +14,12 @@ use Rattle.model.specs.Frame.{Frame}
 use Rattle.model.specs.Numbers.{if_then_else_}
 use Rattle.model.specs.Stores.{ifChangedL2, blockStores, needsPage}
 use Rattle.model.specs.Walk.{entryAt}
-use Rattle.table.specs.Views.{frameOf}
 use Rattle.theory.specs.Rooted.{Good}
-use Rattle.table.specs.declared.Frame as code
+use Rattle.types.specs.declared.Frame as code
+use Rattle.table.specs.Board.{WORDS, INFO, EACHPIECE, frameOf, PIECEENTRY}
 
 module _ (f : code.Frame) (m : List ℕ) (q : Request) (root : ℕ) (gib : Gib) (b info : ℕ) (z : wantPieces info ≡ formAt (frameOf f m) m q root gib b) where
-  pub info-stores : (new : ℕ) → ifChangedL2 (frameOf f m) m root b (0x6000_0000_0000 + info) ≡ storesAt (frameOf f m) m q root gib b new
+  pub info-stores : (new : ℕ) → ifChangedL2 (frameOf f m) m root b (PIECEENTRY + info) ≡ storesAt (frameOf f m) m q root gib b new
   unfolding blockStores encode
   info-stores new = ap (λ (x : Form). blockStores (frameOf f m) m q root x (entryAt (frameOf f m) m root b) b new) z
 
@@ -30,12 +30,12 @@ module _ (f : code.Frame) (m : List ℕ) (q : Request) (root : ℕ) (gib : Gib) 
 -- outside the range, in a GiB that is not of one permission
 module _ (f : code.Frame) (m : List ℕ) (q : Request) (low : q .permission < 4) (root : ℕ) (gib : Gib) (b : ℕ) (g : Good (frameOf f m) m (entryAt (frameOf f m) m root b))
     (mixed : gib .one ≡ false) (o : (k : ℕ) → b * 8192 ≤ k → k < b * 8192 + 8192 → inRange q k ≡ false) where
-  pub flat-form : (p : ℕ) → flat p ≡ entryAt (frameOf f m) m root b → wantPieces (p * 0x5555_5555) ≡ formAt (frameOf f m) m q root gib b
+  pub flat-form : (p : ℕ) → flat p ≡ entryAt (frameOf f m) m root b → wantPieces (p * EACHPIECE) ≡ formAt (frameOf f m) m q root gib b
   flat-form p e =
-      form-flat-out (f .paw) (f .first .0) (length m / 512) m q low (entryAt (frameOf f m) m root b) g b o p (sym e)
-      ∙ rw mixed (form-not (f .paw) (f .first .0) (length m / 512) m q (entryAt (frameOf f m) m root b) b (gib .p))
+      form-flat-out (f .paw) (f .first .0) (length m / WORDS) m q low (entryAt (frameOf f m) m root b) g b o p (sym e)
+      ∙ rw mixed (form-not (f .paw) (f .first .0) (length m / WORDS) m q (entryAt (frameOf f m) m root b) b (gib .p))
 
-  pub pieces-form : (x : ℕ) → pieces x ≡ entryAt (frameOf f m) m root b → x < 2 ^ 32 → wantPieces x ≡ formAt (frameOf f m) m q root gib b
+  pub pieces-form : (x : ℕ) → pieces x ≡ entryAt (frameOf f m) m root b → x < INFO → wantPieces x ≡ formAt (frameOf f m) m q root gib b
   pieces-form x e small =
-      form-pieces-out (f .paw) (f .first .0) (length m / 512) m q low (entryAt (frameOf f m) m root b) g b o x (sym e) small
-      ∙ rw mixed (form-not (f .paw) (f .first .0) (length m / 512) m q (entryAt (frameOf f m) m root b) b (gib .p))
+      form-pieces-out (f .paw) (f .first .0) (length m / WORDS) m q low (entryAt (frameOf f m) m root b) g b o x (sym e) small
+      ∙ rw mixed (form-not (f .paw) (f .first .0) (length m / WORDS) m q (entryAt (frameOf f m) m root b) b (gib .p))

@@ -6,6 +6,8 @@ use native.Mathlib.Omega.{arith}
 use lib.ListN.{drop}
 use Rattle.edit.specs.Kinds.{Fresh, wholeList}
 use Rattle.edit.specs.Over.{storesOver, pagesOver}
+use Rattle.entries.specs.Ahead.{Ahead}
+use Rattle.entries.proofs.Order.{ahead-of}
 use Rattle.entries.specs.Run.{Out, whole, cut, run}
 use Rattle.entries.specs.declared.Budget.{Budget}
 use Rattle.forms.specs.declared.Gib.{Gib}
@@ -13,14 +15,14 @@ use Rattle.forms.specs.Kinds.{GibIs}
 use Rattle.model.specs.Forms.{Request, firstGib, gibs}
 use Rattle.model.specs.Frame.{Frame, blocks}
 use Rattle.model.specs.Stores.{Store}
-use Rattle.table.specs.Views.{frameOf}
 use Rattle.theory.specs.Rooted.{Rooted}
 use Rattle.entries.proofs.Places.{frame-same}
 use Rattle.edit.proofs.Facts.{Facts}
-use Rattle.edit.proofs.Going.{Going, fresh, gib-back, gib-same, going-end, going-start, rooted, size}
+use Rattle.edit.proofs.Going.{Going, fresh, gib-back, gib-same, going-ahead, going-end, going-start, rooted, size}
 use Rattle.edit.proofs.Over.{Ends, going-over, over-same, pages-same}
-use Rattle.table.specs.declared.Frame as code
+use Rattle.types.specs.declared.Frame as code
 use Rattle.forms.specs.declared.Gib as gibs′
+use Rattle.table.specs.Board.{frameOf}
 
 pub record Turn (f : code.Frame) (m0 : List ℕ) (q : Request) (root : ℕ) (free : List ℕ) (limit : Budget) (end : ℕ) (m : List ℕ) (b : ℕ) (gib : gibs′.Gib) (next : ℕ) (left : Budget) : Type 0 where
   pub k : Facts f m0 q root free
@@ -67,6 +69,14 @@ module _ (f : code.Frame) (m0 : List ℕ) (q : Request) (root : ℕ) (free : Lis
 
       pub turn-fresh : Fresh (frameOf f m) m q root g b (headD (drop next free) 0)
       turn-fresh = fresh f m0 q root free (t .k) limit m b next left (t .going) open′ g flag₀
+
+      -- the stores of what is left of this GiB are next
+      pub turn-ahead : Ahead m (storesOver (frameOf f m) m q root g (32 - b % 32) b (drop next free))
+      turn-ahead =
+          subst (λ (X : Frame). Ahead m (storesOver X m q root g (32 - b % 32) b (drop next free))) (sym same-frame)
+          (ahead-of (sym (over-same f m0 q root free (t .k) limit m b next left (t .going) g (32 - b % 32) b (drop next free) (omega arith) (omega (arith, gib-room))))
+          (going-ahead f m0 q root free (t .k) limit m b next left (t .going) g (32 - b % 32) (omega (arith, t .isEnd))
+          (λ c lo hi. let x : b / 32 ≡ c / 32 = omega arith in subst (λ (d : ℕ). GibIs (frameOf f m0) m0 q root d g) x flag₀)))
 
       -- the blocks ahead of this GiB, as many as the code takes at once
       module _ (n : ℕ) (within : b % 32 + n ≤ 32) (o : Out) (said : o ≡ run left (storesOver (frameOf f m) m q root g n b (drop next free)) m) where

@@ -11,7 +11,7 @@ use Rattle.model.specs.Frame.{Frame}
 use Rattle.model.specs.Forms.{Request}
 use Rattle.model.specs.Stores.{Store, apply}
 use Rattle.model.specs.Fence as model
-use Rattle.table.specs.Views.{fenceOf}
+use Rattle.types.specs.Views.{fenceOf}
 use Rattle.edit.specs.declared.Made.{Made}
 
 -- the fence, from what the code counts: how many stores, whether that was all, and where the last one went

@@ -13,7 +13,8 @@ use Rattle.model.specs.Stores as stores
 use Rattle.model.specs.Calls as calls
 use Rattle.forms.specs.declared.Gib.{Gib}
 use Rattle.forms.specs.Kinds.{formAt}
-use Rattle.sound.specs.declared.Free.{Free}
+use Rattle.scan.specs.declared.Free.{Free}
+use Rattle.table.specs.Board.{board, ENTRY, INFO}
 
 -- the free pages that an edit may take, lowest first: two at the most
 abbrev pub freeList : Free → List ℕ
@@ -22,7 +23,7 @@ freeList free = take (free .count) (free .first .0 ∷ free .second .0 ∷ [])
 -- a form whose entry fits a word
 abbrev pub Encodes : model.Form → Type 0
 Encodes (model.wantFlat p) = p < 4
-Encodes (model.wantPieces i) = i < 2 ^ 32
+Encodes (model.wantPieces i) = i < INFO
 Encodes model.wantTable = Unit {0}
 
 -- the stores of block b, by what gib says of its GiB
@@ -31,7 +32,7 @@ storesAt F m q root gib b new = stores.blockStores F m q root (formAt F m q root
 
 -- a new page, where the block needs one
 abbrev pub Fresh : frame.Frame → List ℕ → model.Request → ℕ → Gib → ℕ → ℕ → Type 0
-Fresh F m q root gib b new = stores.needsPage (formAt F m q root gib b) (walk.entryAt F m root b) ≡ true → (frame.lent F new ≡ true) × (new < 2 ^ 44)
+Fresh F m q root gib b new = stores.needsPage (formAt F m q root gib b) (walk.entryAt F m root b) ≡ true → (frame.lent F new ≡ true) × (new < 2 ^ board .infoBits)
 
 -- no refusal fits the edit: root is its slot's root page, and free the lowest free pages
 pub record Accepted (F : frame.Frame) (m : List ℕ) (q : model.Request) (root : ℕ) (free : List ℕ) : Type 0 where
@@ -40,7 +41,7 @@ pub record Accepted (F : frame.Frame) (m : List ℕ) (q : model.Request) (root :
   pub none : calls.editRefusal F m slots q ≡ 0
   pub isRoot : root ≡ calls.rootOf F slots q
   pub areFree : free ≡ take 2 (tables.freePages F m (tables.roots F slots))
-  pub typed : (i : ℕ) → lib.ListN.getD m i 0 < 2 ^ 64
+  pub typed : (i : ℕ) → lib.ListN.getD m i 0 < ENTRY
 
 -- the ordered list of its stores
 abbrev pub wholeList : frame.Frame → List ℕ → model.Request → ℕ → List ℕ → List stores.Store

@@ -15,48 +15,55 @@ use forms::blocks::needs_page;
 use forms::words::page_at;
 use range::Place;
 use range::Request;
-use sound::Free;
-use table::Entry;
-use table::Frame;
-use table::PageNumber;
+use scan::Free;
+use types::Entry;
+use types::Frame;
+use types::PageNumber;
+use table::board::PIECE_ENTRY;
+use table::board::TYPE;
+use table::board::Word;
+use table::board::narrow;
 ghost use mathlib.Core.Path.{_≡_};
 ghost use mathlib.Core.Bool.{true, false};
-ghost use mathlib.Core.List.{headD};
-ghost use Prim.Native.Nat.{_+_, _*_, _/_, _%_, _≤_, _<_, _^_};
+ghost use mathlib.Core.List.{List, headD};
+ghost use Prim.Native.Nat.{_+_, _-_, _*_, _/_, _%_, _≤_, _<_, _^_};
 ghost use lib.ListN.{drop};
 ghost use Rattle.edit.specs.Kinds.{Encodes, Fresh, freeList};
-ghost use Rattle.edit.specs.Over.{Did};
+ghost use Rattle.edit.specs.Over.{Did, storesOver};
+ghost use Rattle.entries.specs.Ahead.{Ahead};
 ghost use Rattle.entries.specs.Run.{out, run};
 ghost use Rattle.range.specs.Kinds.{requestOf, Fair, Lies};
 ghost use Rattle.forms.specs.Kinds.{formOf};
 ghost use Rattle.model.specs.Forms.{wantTable};
 ghost use Rattle.model.specs.Frame.{lent, blocks};
 ghost use Rattle.model.specs.Numbers.{if_then_else_};
-ghost use Rattle.model.specs.Stores.{needsPage, ifChangedL2, blockStores};
-ghost use Rattle.table.specs.Views.{frameOf, entryOf};
+ghost use Rattle.model.specs.Stores.{Store, needsPage, ifChangedL2, blockStores};
+ghost use Rattle.types.specs.Views.{entryOf};
 ghost use Rattle.theory.specs.Rooted.{Good, Rooted};
+ghost use Rattle.table.specs.Board.{board, ENTRY, INFO, frameOf};
 
 // The L2 entry of block b, if it changes.
 pub fn put_entry(
     f: Frame,
-    words: &mut [u64],
+    words: &mut [Word],
     root: PageNumber,
     b: u64,
     word: u64,
     left: Budget,
 ) -> Went
-    requires { ⌜ (b < 512) × (lent (frameOf f (now words)) (root .0) ≡ true) ⌝ }
-    ensures { λ r. ⌜ out (r .all) (r .left) (now (words .exit))
-        ≡ run left (ifChangedL2 (frameOf f (now (words .entry))) (now (words .entry)) (root .0) b word) (now (words .entry)) ⌝ }
+    ghost { List Store }
+    requires { λ ss. ⌜ ss ≡ ifChangedL2 (frameOf f (now words)) (now words) (root .0) b word ⌝ }
+    requires { λ ss. ⌜ (b < 512) × (lent (frameOf f (now words)) (root .0) ≡ true) × (word < ENTRY) × Ahead (now words) ss ⌝ }
+    ensures { λ ss r. ⌜ out (r .all) (r .left) (now (words .exit)) ≡ run left ss (now (words .entry)) ⌝ }
 {
     let at = page_at(f, words, root) + b as usize;
-    put_changed(words, left, at, word)
+    put_changed(words, left, at, narrow(word))
 }
 
 // The stores of a block that is to have an L1 page.
 pub fn table_stores(
     f: Frame,
-    words: &mut [u64],
+    words: &mut [Word],
     q: Request,
     root: PageNumber,
     e: Entry,
@@ -64,10 +71,11 @@ pub fn table_stores(
     new: PageNumber,
     left: Budget,
 ) -> Went
-    requires { ⌜ (b < 512) × Fair q × Good (frameOf f (now words)) (now words) (entryOf e) × (lent (frameOf f (now words)) (root .0) ≡ true)
-        × (needsPage wantTable (entryOf e) ≡ true → (lent (frameOf f (now words)) (new .0) ≡ true) × (new .0 < 2 ^ 44)) ⌝ }
-    ensures { λ r. ⌜ out (r .all) (r .left) (now (words .exit))
-        ≡ run left (blockStores (frameOf f (now (words .entry))) (now (words .entry)) (requestOf q) (root .0) wantTable (entryOf e) b (new .0)) (now (words .entry)) ⌝ }
+    ghost { List Store }
+    requires { λ ss. ⌜ ss ≡ blockStores (frameOf f (now words)) (now words) (requestOf q) (root .0) wantTable (entryOf e) b (new .0) ⌝ }
+    requires { λ ss. ⌜ (b < 512) × Fair q × Good (frameOf f (now words)) (now words) (entryOf e) × (lent (frameOf f (now words)) (root .0) ≡ true)
+        × (needsPage wantTable (entryOf e) ≡ true → (lent (frameOf f (now words)) (new .0) ≡ true) × (new .0 < 2 ^ board .infoBits)) × Ahead (now words) ss ⌝ }
+    ensures { λ ss r. ⌜ out (r .all) (r .left) (now (words .exit)) ≡ run left ss (now (words .entry)) ⌝ }
 {
     match e {
         Entry::Table(t) => own_table(f, words, q, t, b, left),
@@ -80,7 +88,7 @@ pub fn table_stores(
 // The stores of a block.
 pub fn block_stores(
     f: Frame,
-    words: &mut [u64],
+    words: &mut [Word],
     q: Request,
     root: PageNumber,
     form: Form,
@@ -89,14 +97,15 @@ pub fn block_stores(
     new: PageNumber,
     left: Budget,
 ) -> Went
-    requires { ⌜ (b < 512) × Fair q × Good (frameOf f (now words)) (now words) (entryOf e) × (lent (frameOf f (now words)) (root .0) ≡ true)
-        × (needsPage (formOf form) (entryOf e) ≡ true → (lent (frameOf f (now words)) (new .0) ≡ true) × (new .0 < 2 ^ 44)) × Encodes (formOf form) ⌝ }
-    ensures { λ r. ⌜ out (r .all) (r .left) (now (words .exit))
-        ≡ run left (blockStores (frameOf f (now (words .entry))) (now (words .entry)) (requestOf q) (root .0) (formOf form) (entryOf e) b (new .0)) (now (words .entry)) ⌝ }
+    ghost { List Store }
+    requires { λ ss. ⌜ ss ≡ blockStores (frameOf f (now words)) (now words) (requestOf q) (root .0) (formOf form) (entryOf e) b (new .0) ⌝ }
+    requires { λ ss. ⌜ (b < 512) × Fair q × Good (frameOf f (now words)) (now words) (entryOf e) × (lent (frameOf f (now words)) (root .0) ≡ true)
+        × (needsPage (formOf form) (entryOf e) ≡ true → (lent (frameOf f (now words)) (new .0) ≡ true) × (new .0 < 2 ^ board .infoBits)) × Encodes (formOf form) × Ahead (now words) ss ⌝ }
+    ensures { λ ss r. ⌜ out (r .all) (r .left) (now (words .exit)) ≡ run left ss (now (words .entry)) ⌝ }
 {
     match form {
-        Form::Flat(p) => put_entry(f, words, root, b, p * 0x1000_0000_0000, left),
-        Form::Pieces(info) => put_entry(f, words, root, b, 0x6000_0000_0000 + info, left),
+        Form::Flat(p) => put_entry(f, words, root, b, p * TYPE, left),
+        Form::Pieces(info) => put_entry(f, words, root, b, PIECE_ENTRY + info, left),
         Form::Table => table_stores(f, words, q, root, e, b, new, left),
     }
 }
@@ -150,7 +159,7 @@ pub fn page_from(free: Free, next: u64) -> PageNumber
 // One block: its finished form, and its stores.
 pub fn one_block(
     f: Frame,
-    words: &mut [u64],
+    words: &mut [Word],
     q: Request,
     root: PageNumber,
     gib: Gib,
@@ -160,7 +169,8 @@ pub fn one_block(
     left: Budget,
 ) -> Step
     requires { ⌜ Rooted (frameOf f (now words)) (now words) (root .0) × (b < blocks (frameOf f (now words))) × Fair q × (gib .p < 4) × (next < 2 ^ 32)
-        × Fresh (frameOf f (now words)) (now words) (requestOf q) (root .0) gib b (headD (drop next (freeList free)) 0) ⌝ }
+        × Fresh (frameOf f (now words)) (now words) (requestOf q) (root .0) gib b (headD (drop next (freeList free)) 0)
+        × Ahead (now words) (storesOver (frameOf f (now words)) (now words) (requestOf q) (root .0) gib 1 b (drop next (freeList free))) ⌝ }
     ensures { λ r. ⌜ Did (frameOf f (now (words .entry))) (now (words .entry)) (requestOf q) (root .0) gib b (freeList free) next left r (now (words .exit)) ⌝ }
 {
     let e = entry_at(f, words, root, b);
@@ -180,7 +190,7 @@ pub fn one_block(
 // The blocks from b on of a GiB of one permission. Their entries are read only to see whether they change.
 pub fn flat_blocks(
     f: Frame,
-    words: &mut [u64],
+    words: &mut [Word],
     q: Request,
     root: PageNumber,
     gib: Gib,
@@ -189,12 +199,13 @@ pub fn flat_blocks(
     next: u64,
     left: Budget,
 ) -> Step
-    requires { ⌜ (lent (frameOf f (now words)) (root .0) ≡ true) × (b < 512) × (gib .p < 4) × (gib .one ≡ true) ⌝ }
+    requires { ⌜ (lent (frameOf f (now words)) (root .0) ≡ true) × (b < 512) × (gib .p < 4) × (gib .one ≡ true)
+        × Ahead (now words) (storesOver (frameOf f (now words)) (now words) (requestOf q) (root .0) gib (32 - b % 32) b (drop next (freeList free))) ⌝ }
     ensures { λ r. ⌜ Did (frameOf f (now (words .entry))) (now (words .entry)) (requestOf q) (root .0) gib b (freeList free) next left r (now (words .exit)) ⌝ }
 {
     let n = 32 - b % 32;
     let at = page_at(f, words, root) + b as usize;
-    let went = flat_entries(words, at, n as usize, gib.p * 0x1000_0000_0000, left);
+    let went = flat_entries(words, at, n as usize, narrow(gib.p * TYPE), left);
     let rest = went.left;
     Step {
         all: went.all,
@@ -208,7 +219,7 @@ pub fn flat_blocks(
 // entry alone says its finished form.
 pub fn outside_blocks(
     f: Frame,
-    words: &mut [u64],
+    words: &mut [Word],
     q: Request,
     root: PageNumber,
     gib: Gib,
@@ -220,7 +231,8 @@ pub fn outside_blocks(
 ) -> Step
     requires { ⌜ Rooted (frameOf f (now words)) (now words) (root .0) × (b + n ≤ blocks (frameOf f (now words))) × Fair q × (gib .p < 4) × (next < 2 ^ 32)
         × Fresh (frameOf f (now words)) (now words) (requestOf q) (root .0) gib b (headD (drop next (freeList free)) 0)
-        × (gib .one ≡ false) × (1 ≤ n) × (b % 32 + n ≤ 32) × Lies (requestOf q) (b * 8192) (n * 8192) Place.Outside ⌝ }
+        × (gib .one ≡ false) × (1 ≤ n) × (b % 32 + n ≤ 32) × Lies (requestOf q) (b * 8192) (n * 8192) Place.Outside
+        × Ahead (now words) (storesOver (frameOf f (now words)) (now words) (requestOf q) (root .0) gib (32 - b % 32) b (drop next (freeList free))) ⌝ }
     ensures { λ r. ⌜ Did (frameOf f (now (words .entry))) (now (words .entry)) (requestOf q) (root .0) gib b (freeList free) next left r (now (words .exit)) ⌝ }
 {
     let at = page_at(f, words, root) + b as usize;
@@ -240,7 +252,7 @@ pub fn outside_blocks(
 // The next blocks: all that are left of a GiB of one permission; those up to the range or to the end of their GiB; or one.
 pub fn next_blocks(
     f: Frame,
-    words: &mut [u64],
+    words: &mut [Word],
     q: Request,
     root: PageNumber,
     gib: Gib,
@@ -250,7 +262,8 @@ pub fn next_blocks(
     left: Budget,
 ) -> Step
     requires { ⌜ Rooted (frameOf f (now words)) (now words) (root .0) × (b / 32 * 32 + 32 ≤ blocks (frameOf f (now words))) × Fair q × (gib .p < 4) × (next < 2 ^ 32)
-        × Fresh (frameOf f (now words)) (now words) (requestOf q) (root .0) gib b (headD (drop next (freeList free)) 0) ⌝ }
+        × Fresh (frameOf f (now words)) (now words) (requestOf q) (root .0) gib b (headD (drop next (freeList free)) 0)
+        × Ahead (now words) (storesOver (frameOf f (now words)) (now words) (requestOf q) (root .0) gib (32 - b % 32) b (drop next (freeList free))) ⌝ }
     ensures { λ r. ⌜ Did (frameOf f (now (words .entry))) (now (words .entry)) (requestOf q) (root .0) gib b (freeList free) next left r (now (words .exit)) ⌝ }
 {
     if gib.one {

@@ -8,12 +8,13 @@ use forms::Gib;
 use forms::gibs::gib_at;
 use forms::words::page_at;
 use range::Request;
-use sound::Free;
-use table::Fence;
-use table::Frame;
-use table::PageNumber;
-use table::Sdid;
+use scan::Free;
+use types::Fence;
+use types::Frame;
+use types::PageNumber;
+use types::Sdid;
 use table::lent::block_count;
+use table::board::Word;
 ghost use mathlib.Core.Path.{_≡_};
 ghost use mathlib.Core.Bool.{true};
 ghost use Rattle.edit.specs.Done.{fenceAfter, IsMade};
@@ -22,7 +23,8 @@ ghost use Rattle.entries.specs.Run.{out, run};
 ghost use Rattle.range.specs.Kinds.{requestOf};
 ghost use Rattle.model.specs.Fence.{inRoot};
 ghost use Rattle.model.specs.Frame.{lent, boundsOk};
-ghost use Rattle.table.specs.Views.{frameOf, fenceOf};
+ghost use Rattle.types.specs.Views.{fenceOf};
+ghost use Rattle.table.specs.Board.{frameOf};
 
 // How some blocks went, the next new page, and how many blocks it was.
 pub struct Step {
@@ -42,7 +44,7 @@ pub struct Made {
 // The stores of an edit that no refusal fits, in order, up to the limit. free: the free pages, lowest first.
 pub fn stores(
     f: Frame,
-    words: &mut [u64],
+    words: &mut [Word],
     q: Request,
     root: PageNumber,
     free: Free,
@@ -78,7 +80,7 @@ pub fn stores(
 }
 
 // Word at is an entry of the root.
-pub fn in_root(f: Frame, words: &[u64], root: PageNumber, at: usize) -> bool
+pub fn in_root(f: Frame, words: &[Word], root: PageNumber, at: usize) -> bool
     requires { ⌜ (lent (frameOf f (now words)) (root .0) ≡ true) × (boundsOk (frameOf f (now words)) ≡ true) ⌝ }
     ensures { λ r. ⌜ r ≡ inRoot (frameOf f (now (words .entry))) (root .0) at ⌝ }
 {
@@ -92,7 +94,7 @@ pub fn in_root(f: Frame, words: &[u64], root: PageNumber, at: usize) -> bool
 // The fence after count stores, the last to word at, that were all or were cut.
 pub fn fence_of(
     f: Frame,
-    words: &[u64],
+    words: &[Word],
     q: Request,
     root: PageNumber,
     sdid: Sdid,
@@ -125,7 +127,7 @@ pub fn fence_of(
 // An edit that no refusal fits.
 pub fn make(
     f: Frame,
-    words: &mut [u64],
+    words: &mut [Word],
     q: Request,
     root: PageNumber,
     sdid: Sdid,

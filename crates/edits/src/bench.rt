@@ -1,13 +1,13 @@
 // The calls on the frame of the bench cases, PAW 32 from page 0x80000, and a look at the entries. Each writes one line.
 use crate::say;
-use table::Access;
-use table::Address;
-use table::Frame;
-use table::Kind;
-use table::PageNumber;
-use table::Permission;
-use table::Privilege;
-use table::Sdid;
+use types::Access;
+use types::Address;
+use types::Frame;
+use types::Kind;
+use types::PageNumber;
+use types::Permission;
+use types::Privilege;
+use types::Sdid;
 ghost use Prim.Native.Nat.{_≤_, _<_};
 
 pub fn frame(paw: u64) -> Frame {

@@ -16,9 +16,9 @@ use crate::bench::open;
 use crate::bench::page;
 use crate::bench::tell;
 use crate::say::text;
-use table::Access;
-use table::Kind;
-use table::Permission;
+use types::Access;
+use types::Kind;
+use types::Permission;
 ghost use Prim.Native.Nat.{_≤_, _<_};
 
 // The edit of case C.

@@ -4,11 +4,11 @@ use io::print_hex;
 use io::write_all;
 use libc::STDOUT_FILENO;
 use monitor::Reply;
-use table::Answer;
-use table::Fence;
-use table::Permission;
-use table::number::of_cause;
-use table::number::of_refusal;
+use types::Answer;
+use types::Fence;
+use types::Permission;
+use types::number::of_cause;
+use types::number::of_refusal;
 
 pub fn text(what: &[u8]) {
     write_all(STDOUT_FILENO, what);

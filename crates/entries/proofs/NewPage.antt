@@ -5,7 +5,10 @@ use mathlib.Core.List.{List, [], _∷_, _++_}
 use Prim.Native.Nat.{ℕ, zero, suc, _+_, _-_, _*_, _/_, _≤_, _<_}
 use native.Mathlib.Omega.{arith}
 use lib.ListN.{length}
-use Rattle.entries.proofs.Runs.{run-none, run-on, run-off, went-whole, went-cut, joined-end}
+use Rattle.table.specs.Board.{WORDS, frameOf}
+use Rattle.entries.proofs.Runs.{went-whole, went-cut, joined-end}
+use Rattle.entries.proofs.Order.{ahead-of, Way, way-start, way-end, way-ahead, way-next, way-cut}
+use Rattle.entries.specs.Ahead.{Ahead}
 use Rattle.entries.specs.Pages.{Plain, newRun}
 use Rattle.entries.specs.Rows.{fillStores}
 use Rattle.entries.specs.Run.{whole, out, run}
@@ -16,11 +19,10 @@ use Rattle.model.specs.Forms.{Request, l1Word}
 use Rattle.model.specs.Frame.{Frame, lent, indexOf}
 use Rattle.model.specs.Numbers.{joined}
 use Rattle.model.specs.Stores.{Store, storeAt, newTable}
-use Rattle.table.specs.Views.{frameOf}
 use Rattle.theory.specs.Rooted.{Good}
 use Rattle.laws.proofs.Lists.{joined-append, joined-cong}
 use Rattle.entries.proofs.Places.{frame-same, index-next, l1-plain, store-at, lent-same, good-same}
-use Rattle.table.specs.declared.Frame as code
+use Rattle.types.specs.declared.Frame as code
 
 module _ (f : code.Frame) (q : Request) (low : q .permission < 4) (e : Entry) (pl : Plain e) (b new : ℕ) (m0 : List ℕ) where
   -- the stores of a run follow from the block's entry, and not from the memory
@@ -30,52 +32,54 @@ module _ (f : code.Frame) (q : Request) (low : q .permission < 4) (e : Entry) (p
       ∙ joined-cong (λ k. storeAt (frameOf f m0) new k (l1Word (frameOf f m0) m q e b k) ∷ []) (λ k. storeAt (frameOf f m0) new k (l1Word (frameOf f m0) m0 q e b k) ∷ []) n i
       (λ k lo hi. ap (λ (w : ℕ). storeAt (frameOf f m0) new k w ∷ []) (l1-plain (f .paw) (f .first .0) m0 q low b m0 m e k pl))
 
-  pub run-parts : (from to : ℕ) → from ≤ to → to ≤ 512
+  pub run-parts : (from to : ℕ) → from ≤ to → to ≤ WORDS
       → newTable (frameOf f m0) m0 q e b new
-      ≡ newRun (frameOf f m0) m0 q e b new (from - 0) 0 ++ (newRun (frameOf f m0) m0 q e b new (to - from) from ++ newRun (frameOf f m0) m0 q e b new (512 - to) to)
+      ≡ newRun (frameOf f m0) m0 q e b new (from - 0) 0 ++ (newRun (frameOf f m0) m0 q e b new (to - from) from ++ newRun (frameOf f m0) m0 q e b new (WORDS - to) to)
   unfolding newTable
   run-parts from to h fits =
       let g : ℕ → List Store = λ k. storeAt (frameOf f m0) new k (l1Word (frameOf f m0) m0 q e b k) ∷ [] in
-      let u : 512 ≡ (from - 0) + ((to - from) + (512 - to)) = omega arith in
+      let u : WORDS ≡ (from - 0) + ((to - from) + (WORDS - to)) = omega arith in
       let v : 0 + (from - 0) ≡ from = omega arith in
       let w : from + (to - from) ≡ to = omega arith in
       ap (λ (n : ℕ). joined g n 0) u
-      ∙ joined-append g (from - 0) ((to - from) + (512 - to)) 0
+      ∙ joined-append g (from - 0) ((to - from) + (WORDS - to)) 0
       ∙ ap (λ (l : List Store). joined g (from - 0) 0 ++ l)
-      (ap (joined g ((to - from) + (512 - to))) v ∙ joined-append g (to - from) (512 - to) from ∙ ap (λ (k : ℕ). joined g (to - from) from ++ joined g (512 - to) k) w)
+      (ap (joined g ((to - from) + (WORDS - to))) v ∙ joined-append g (to - from) (WORDS - to) from ∙ ap (λ (k : ℕ). joined g (to - from) from ++ joined g (WORDS - to) k) w)
 
 -- the entries from .. i are done, and the rest up to `to` decides the whole
 pub record New (f : code.Frame) (q : Request) (e : Entry) (b new : ℕ) (m0 : List ℕ) (left : Budget) (from to : ℕ) (m : List ℕ) (more : Budget) (i : ℕ) : Type 0 where
-  pub fits : to ≤ 512
+  pub fits : to ≤ WORDS
   pub past : from ≤ i
   pub few : i ≤ to
   pub size : length m ≡ length m0
-  pub rest : run left (newRun (frameOf f m0) m0 q e b new (to - from) from) m0 ≡ run more (newRun (frameOf f m0) m0 q e b new (to - i) i) m
+  pub way : Way left m0 (newRun (frameOf f m0) m0 q e b new (to - from) from) more m (newRun (frameOf f m0) m0 q e b new (to - i) i)
 
 module _ {f : code.Frame} {q : Request} {e : Entry} {b new : ℕ} {m0 : List ℕ} {left : Budget} {from to : ℕ} where
-  pub new-start : to ≤ 512 → from ≤ to → New f q e b new m0 left from to m0 left from
-  new-start fits h = record { fits = fits; past = omega arith; few = h; size = refl; rest = refl }
+  pub new-start : to ≤ WORDS → from ≤ to → Ahead m0 (newRun (frameOf f m0) m0 q e b new (to - from) from) → New f q e b new m0 left from to m0 left from
+  new-start fits h a = record { fits = fits; past = omega arith; few = h; size = refl; way = way-start refl a }
 
   module _ {m : List ℕ} {more : Budget} {i : ℕ} (s : New f q e b new m0 left from to m more i) where
     abbrev H : Frame
     H = frameOf f m0
 
-    -- a turn that stores n entries
+    -- n entries of the rest
+    module _ (n : ℕ) (h : i + n ≤ to) where
+      parts : newRun H m0 q e b new (to - i) i ≡ newRun H m0 q e b new n i ++ newRun H m0 q e b new (to - (i + n)) (i + n)
+      parts =
+          let u : to - i ≡ n + (to - (i + n)) = omega arith in
+          ap (λ (k : ℕ). newRun H m0 q e b new k i) u ∙ joined-append (λ k. storeAt H new k (l1Word H m0 q e b k) ∷ []) n (to - (i + n)) i
+
+      pub new-ahead : q .permission < 4 → Plain e → Ahead m (newRun (frameOf f m) m q e b new n i)
+      new-ahead low pl = ahead-of (sym (run-same f q low e pl b new m0 m (s .size) n i)) (way-ahead (s .way) (newRun H m0 q e b new n i) _ parts)
+
+    -- a turn that stores them
     module _ (n : ℕ) (low : q .permission < 4) (pl : Plain e) (h : i + n ≤ to) (r : Went) (m′ : List ℕ)
         (said : out (r .all) (r .left) m′ ≡ run more (newRun (frameOf f m) m q e b new n i) m) where
       step-new : out (r .all) (r .left) m′ ≡ run more (newRun H m0 q e b new n i) m
       step-new = said ∙ ap (λ (ss : List Store). run more ss m) (run-same f q low e pl b new m0 m (s .size) n i)
 
-      turn-new : run more (newRun H m0 q e b new (to - i) i) m ≡ run more (newRun H m0 q e b new n i ++ newRun H m0 q e b new (to - (i + n)) (i + n)) m
-      turn-new =
-          let u : to - i ≡ n + (to - (i + n)) = omega arith in
-          ap (λ (k : ℕ). run more (newRun H m0 q e b new k i) m) u
-          ∙ ap (λ (ss : List Store). run more ss m) (joined-append (λ k. storeAt H new k (l1Word H m0 q e b k) ∷ []) n (to - (i + n)) i)
-
       pub new-cut : not (r .all) ≡ true → out (r .all) (r .left) m′ ≡ run left (newRun H m0 q e b new (to - from) from) m0
-      new-cut t =
-          let z = went-cut r m′ t in
-          z ∙ sym (s .rest ∙ turn-new ∙ run-off more (newRun H m0 q e b new n i) m (sym z ∙ step-new) (newRun H m0 q e b new (to - (i + n)) (i + n)))
+      new-cut t = let z = went-cut r m′ t in z ∙ way-cut (s .way) (newRun H m0 q e b new n i) _ (parts n h) (sym z ∙ step-new)
 
       pub new-next : not (r .all) ≡ false → length m′ ≡ length m → New f q e b new m0 left from to m′ (r .left) (i + n)
       new-next t len =
@@ -85,13 +89,13 @@ module _ {f : code.Frame} {q : Request} {e : Entry} {b new : ℕ} {m0 : List ℕ
             past = omega (arith, s .past);
             few = h;
             size = len ∙ s .size;
-            rest = s .rest ∙ turn-new ∙ run-on more (newRun H m0 q e b new n i) m (sym z ∙ step-new) (newRun H m0 q e b new (to - (i + n)) (i + n));
+            way = way-next (s .way) (newRun H m0 q e b new n i) _ (parts n h) (sym z ∙ step-new);
           }
 
     pub new-end : to ≤ i → whole more m ≡ run left (newRun H m0 q e b new (to - from) from) m0
     new-end h =
         let z : to - i ≡ 0 = omega arith in
-        sym (s .rest ∙ ap (λ (ss : List Store). run more ss m) (joined-end (λ k. storeAt H new k (l1Word H m0 q e b k) ∷ []) (to - i) i z) ∙ run-none more m)
+        way-end (s .way) (joined-end (λ k. storeAt H new k (l1Word H m0 q e b k) ∷ []) (to - i) i z)
 
     -- what the code asks of the block's entry and of the new page, at every turn
     pub new-good : Plain e → Good H m0 e → Good (frameOf f m) m e

@@ -8,7 +8,10 @@ use native.Mathlib.Omega.{arith}
 use lib.Dec.{eqb}
 use lib.ListN.{length, getD}
 use borrow.Author.Tests.{eqb-true, eqb-false, eq-eqb}
-use Rattle.entries.proofs.Runs.{run-none, run-on, run-off, run-whole, joined-turn}
+use Rattle.table.specs.Board.{board, WORDS, FIELDS, ENTRY, frameOf}
+use Rattle.entries.proofs.Runs.{run-none, run-whole, joined-turn}
+use Rattle.entries.proofs.Order.{ahead-of, Way, way-start, way-end, way-ahead, way-next, way-cut}
+use Rattle.entries.specs.Ahead.{Ahead}
 use Rattle.entries.specs.Run.{Out, whole, cut, run}
 use Rattle.entries.specs.declared.Budget.{Budget}
 use Rattle.forms.proofs.EntryLaws.{word-outside}
@@ -16,21 +19,19 @@ use Rattle.laws.proofs.Choices.{split}
 use Rattle.model.specs.Entry.{table, clean}
 use Rattle.model.specs.Forms.{Request, inRange, l1Word}
 use Rattle.model.specs.Frame.{Frame, wordAt, indexOf}
-use Rattle.model.specs.Layout.{rv64}
 use Rattle.model.specs.Numbers.{joined}
 use Rattle.model.specs.Stores.{Store, ifChanged, sameTable}
-use Rattle.table.specs.Views.{frameOf}
 use Rattle.theory.specs.Rooted.{Good}
 use Rattle.laws.proofs.Lists.{joined-none, joined-skip}
 use Rattle.entries.proofs.Places.{Put, changed-same, frame-same, l1-clean, put-changed}
-use Rattle.table.specs.declared.Frame as code
+use Rattle.types.specs.declared.Frame as code
 
 -- an L1 entry whose pages lie outside the range does not change
-pub entry-stays : (f : code.Frame) (m : List ℕ) (q : Request) (low : q .permission < 4) (t b : ℕ) → Good (frameOf f m) m (table t) → ((j : ℕ) → getD m j 0 < 2 ^ 64) → (i : ℕ) → i < 512
-    → ((k : ℕ) → b * 8192 + i * 16 ≤ k → k < b * 8192 + i * 16 + 16 → inRange q k ≡ false) → ifChanged (frameOf f m) m t i (l1Word (frameOf f m) m q (table t) b i) ≡ []
+pub entry-stays : (f : code.Frame) (m : List ℕ) (q : Request) (low : q .permission < 4) (t b : ℕ) → Good (frameOf f m) m (table t) → ((j : ℕ) → getD m j 0 < ENTRY) → (i : ℕ) → i < WORDS
+    → ((k : ℕ) → b * 8192 + i * FIELDS ≤ k → k < b * 8192 + i * FIELDS + FIELDS → inRange q k ≡ false) → ifChanged (frameOf f m) m t i (l1Word (frameOf f m) m q (table t) b i) ≡ []
 unfolding ifChanged wordAt
 entry-stays f m q low t b g low64 i h o =
-    rw (eq-eqb _ _ (word-outside (f .paw) (f .first .0) (length m / 512) m q low (table t) g b i h (low64 (indexOf (frameOf f m) t i)) o))
+    rw (eq-eqb _ _ (word-outside (f .paw) (f .first .0) (length m / WORDS) m q low (table t) g b i h (low64 (indexOf (frameOf f m) t i)) o))
 
 -- ---- the entries of a block's own page, one after another
 
@@ -44,45 +45,52 @@ module _ (f : code.Frame) (q : Request) (t b : ℕ) (m0 : List ℕ) (left : Budg
 
   -- the entries below i are done, and the rest from here decides the whole
   pub record Same (m : List ℕ) (more : Budget) (i : ℕ) : Type 0 where
-    pub few : i ≤ 512
+    pub few : i ≤ WORDS
     pub size : length m ≡ length m0
-    pub ahead : (j : ℕ) → i ≤ j → j < 512 → wordAt G m t j ≡ wordAt G m0 t j
+    pub ahead : (j : ℕ) → i ≤ j → j < WORDS → wordAt G m t j ≡ wordAt G m0 t j
     pub good : Good G m (table t)
-    pub rest : run left (sameTable G m0 q (table t) b t) m0 ≡ run more (sameRest G m0 q t b (512 - i) i) m
+    pub way : Way left m0 (sameTable G m0 q (table t) b t) more m (sameRest G m0 q t b (WORDS - i) i)
 
   abbrev gs : ℕ → List Store
   gs k = ifChanged G m0 t k (l1Word G m0 q (table t) b k)
 
   -- the entries below from lie outside the range
-  pub same-start : q .permission < 4 → Good G m0 (table t) → ((j : ℕ) → getD m0 j 0 < 2 ^ 64) → (from : ℕ) → from ≤ 512
-      → ((k : ℕ) → k < b * 8192 + from * 16 → b * 8192 ≤ k → inRange q k ≡ false) → Same m0 left from
+  pub same-start : q .permission < 4 → Good G m0 (table t) → ((j : ℕ) → getD m0 j 0 < ENTRY) → (from : ℕ) → from ≤ WORDS
+      → ((k : ℕ) → k < b * 8192 + from * FIELDS → b * 8192 ≤ k → inRange q k ≡ false) → Ahead m0 (sameTable G m0 q (table t) b t) → Same m0 left from
   unfolding sameTable
-  same-start low g low64 from few o =
-      let u : 512 ≡ from + (512 - from) = omega arith in
+  same-start low g low64 from few o a =
+      let u : WORDS ≡ from + (WORDS - from) = omega arith in
+      let skip : sameTable G m0 q (table t) b t ≡ sameRest G m0 q t b (WORDS - from) from
+      = ap (λ (n : ℕ). joined gs n 0) u
+      ∙ joined-skip gs from (WORDS - from) 0 (λ i lo hi. entry-stays f m0 q low t b g low64 i (omega arith) (λ k l v. o k (omega arith) (omega arith)))
+      ∙ ap (joined gs (WORDS - from)) (zero-add from) in
       record {
         few = few;
         size = refl;
         ahead = λ j l v. refl;
         good = g;
-        rest = ap (λ (ss : List Store). run left ss m0)
-            (ap (λ (n : ℕ). joined gs n 0) u
-            ∙ joined-skip gs from (512 - from) 0 (λ i lo hi. entry-stays f m0 q low t b g low64 i (omega arith) (λ k l v. o k (omega arith) (omega arith)))
-            ∙ ap (joined gs (512 - from)) (zero-add from));
+        way = way-start skip a;
       }
 
-  module _ (low : q .permission < 4) (m : List ℕ) (more : Budget) (i : ℕ) (s : Same m more i) (h : i < 512) (o : Out)
+  module _ (low : q .permission < 4) (m : List ℕ) (more : Budget) (i : ℕ) (s : Same m more i) (h : i < WORDS) where
+    as-found : ifChanged G m t i (l1Word G m q (table t) b i) ≡ gs i
+    as-found = changed-same (f .paw) (f .first .0) m0 q low b m0 m t i h (s .ahead i (omega arith) h)
+
+    pub same-ahead : Ahead m (ifChanged (frameOf f m) m t i (l1Word (frameOf f m) m q (table t) b i))
+    same-ahead =
+        subst (λ (X : Frame). Ahead m (ifChanged X m t i (l1Word X m q (table t) b i))) (sym (frame-same f m m0 (s .size)))
+        (ahead-of (sym as-found) (way-ahead (s .way) (gs i) _ (joined-turn gs WORDS i h)))
+
+  module _ (low : q .permission < 4) (m : List ℕ) (more : Budget) (i : ℕ) (s : Same m more i) (h : i < WORDS) (o : Out)
       (said : o ≡ run more (ifChanged (frameOf f m) m t i (l1Word (frameOf f m) m q (table t) b i)) m) where
     here : o ≡ run more (ifChanged G m t i (l1Word G m q (table t) b i)) m
     here = subst (λ (X : Frame). o ≡ run more (ifChanged X m t i (l1Word X m q (table t) b i)) m) (frame-same f m m0 (s .size)) said
 
     step : o ≡ run more (gs i) m
-    step = here ∙ ap (λ (ss : List Store). run more ss m) (changed-same (f .paw) (f .first .0) m0 q low b m0 m t i h (s .ahead i (omega arith) h))
-
-    turn : run more (sameRest G m0 q t b (512 - i) i) m ≡ run more (gs i ++ sameRest G m0 q t b (512 - (i + 1)) (i + 1)) m
-    turn = ap (λ (ss : List Store). run more ss m) (joined-turn gs 512 i h)
+    step = here ∙ ap (λ (ss : List Store). run more ss m) (as-found low m more i s h)
 
     pub same-cut : {m′ : List ℕ} → o ≡ cut m′ → o ≡ run left (sameTable G m0 q (table t) b t) m0
-    same-cut z = z ∙ sym (s .rest ∙ turn ∙ run-off more (gs i) m (sym z ∙ step) (sameRest G m0 q t b (512 - (i + 1)) (i + 1)))
+    same-cut z = z ∙ way-cut (s .way) (gs i) _ (joined-turn gs WORDS i h) (sym z ∙ step)
 
     pub same-next : {l : Budget} {m′ : List ℕ} → o ≡ whole l m′ → Same m′ l (i + 1)
     same-next {l} {m′} z =
@@ -97,30 +105,27 @@ module _ (f : code.Frame) (q : Request) (t b : ℕ) (m0 : List ℕ) (left : Budg
             s .good .0,
             λ j u. split (eqb j i)
                 (λ y. let same : j ≡ i = eqb-true j i y in
-                ap (λ (k : ℕ). clean rv64 (wordAt G m′ t k)) same ∙ ap (clean rv64) (wrote .here) ∙ l1-clean (f .paw) (f .first .0) m0 q low b m (table t) i (s .good))
-                (λ y. ap (clean rv64) (wrote .others t j (s .good .0) u (λ x. eqb-false j i y)) ∙ s .good .1 j u),
+                ap (λ (k : ℕ). clean board (wordAt G m′ t k)) same ∙ ap (clean board) (wrote .here) ∙ l1-clean (f .paw) (f .first .0) m0 q low b m (table t) i (s .good))
+                (λ y. ap (clean board) (wrote .others t j (s .good .0) u (λ x. eqb-false j i y)) ∙ s .good .1 j u),
           );
-          rest = s .rest ∙ turn ∙ run-on more (gs i) m (sym z ∙ step) (sameRest G m0 q t b (512 - (i + 1)) (i + 1));
+          way = way-next (s .way) (gs i) _ (joined-turn gs WORDS i h) (sym z ∙ step);
         }
 
   -- the entries from to on lie outside the range
-  pub same-end : q .permission < 4 → Good G m0 (table t) → ((j : ℕ) → getD m0 j 0 < 2 ^ 64) → (to : ℕ)
-      → ((k : ℕ) → b * 8192 + to * 16 ≤ k → k < b * 8192 + 8192 → inRange q k ≡ false)
+  pub same-end : q .permission < 4 → Good G m0 (table t) → ((j : ℕ) → getD m0 j 0 < ENTRY) → (to : ℕ)
+      → ((k : ℕ) → b * 8192 + to * FIELDS ≤ k → k < b * 8192 + 8192 → inRange q k ≡ false)
       → (m : List ℕ) (more : Budget) (i : ℕ) → Same m more i → to ≤ i → whole more m ≡ run left (sameTable G m0 q (table t) b t) m0
   same-end low g low64 to o m more i s h =
-      sym (s .rest
-      ∙ ap (λ (ss : List Store). run more ss m)
-      (joined-none gs (512 - i) i (λ j lo hi. entry-stays f m0 q low t b g low64 j (omega (arith, s .few)) (λ k l v. o k (omega arith) (omega (arith, s .few)))))
-      ∙ run-none more m)
+      way-end (s .way) (joined-none gs (WORDS - i) i (λ j lo hi. entry-stays f m0 q low t b g low64 j (omega (arith, s .few)) (λ k l v. o k (omega arith) (omega (arith, s .few)))))
 
 -- ---- a block outside the range: its own page does not change
 
 pub own-none : (f : code.Frame) (m : List ℕ) (q : Request) (low : q .permission < 4) (t b : ℕ) → Good (frameOf f m) m (table t)
-    → ((k : ℕ) → b * 8192 ≤ k → k < b * 8192 + 8192 → inRange q k ≡ false) → ((j : ℕ) → getD m j 0 < 2 ^ 64) → (left : Budget)
+    → ((k : ℕ) → b * 8192 ≤ k → k < b * 8192 + 8192 → inRange q k ≡ false) → ((j : ℕ) → getD m j 0 < ENTRY) → (left : Budget)
     → whole left m ≡ run left (sameTable (frameOf f m) m q (table t) b t) m
 unfolding sameTable
 own-none f m q low t b g o low64 left =
     sym (ap (λ (ss : List Store). run left ss m)
-    (joined-none (λ i. ifChanged (frameOf f m) m t i (l1Word (frameOf f m) m q (table t) b i)) 512 0
+    (joined-none (λ i. ifChanged (frameOf f m) m t i (l1Word (frameOf f m) m q (table t) b i)) WORDS 0
     (λ i lo hi. entry-stays f m q low t b g low64 i (omega arith) (λ k l u. o k (omega arith) (omega arith))))
     ∙ run-none left m)

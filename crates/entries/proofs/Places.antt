@@ -9,7 +9,9 @@ use lib.Dec.{eqb, ltb}
 use lib.ListN.{length, getD, length-set}
 use lib.Seq.{getD-set-same}
 use borrow.Author.Tests.{eqb-true, eqb-false, lt-ltb}
+use Rattle.table.specs.Board.{board, WORDS, FIELDS, frameOf}
 use Rattle.entries.specs.Pages.{Plain}
+use Rattle.entries.specs.Ahead.{Ahead}
 use Rattle.entries.specs.Run.{Out, run}
 use Rattle.entries.specs.declared.Budget.{Budget}
 use Rattle.forms.proofs.Fields.{lent-in, index-add}
@@ -20,21 +22,20 @@ use Rattle.laws.proofs.Every.{every-all}
 use Rattle.model.specs.Entry.{Entry, flat, pieces, table, invalid, Found, clean}
 use Rattle.model.specs.Forms.{Request, inRange, permOf, afterIn, l1Word}
 use Rattle.model.specs.Frame.{Frame, lent, wordAt, indexOf}
-use Rattle.model.specs.Layout.{rv64}
 use Rattle.model.specs.Numbers.{if_then_else_, digit, pack}
 use Rattle.model.specs.Stores.{Store, apply, storeAt, ifChanged}
 use Rattle.model.specs.Walk.{pn1}
 use Rattle.table.specs.Stored.{storeOf}
-use Rattle.table.specs.Views.{frameOf}
 use Rattle.theory.proofs.Along.{apply-none, apply-one}
 use Rattle.theory.proofs.Memory.{put, put-other-page, put-other-entry}
 use Rattle.theory.proofs.Walks.{found-same}
 use Rattle.theory.specs.Rooted.{Good}
-use Rattle.table.specs.declared.Frame as code
+use Rattle.entries.proofs.Order.{ahead-of}
+use Rattle.types.specs.declared.Frame as code
 
 -- memories of one length have one frame
 pub frame-same : (f : code.Frame) (m m′ : List ℕ) → length m ≡ length m′ → frameOf f m ≡ frameOf f m′
-frame-same f m m′ e = ap (λ (n : ℕ). record { layout = rv64; paw = f .paw; first = f .first .0; pages = n / 512 }) e
+frame-same f m m′ e = ap (λ (n : ℕ). record { layout = board; paw = f .paw; first = f .first .0; pages = n / WORDS }) e
 
 -- the entry behind it stands at the next word
 pub index-next : (F : Frame) (p i : ℕ) → suc (indexOf F p i) ≡ indexOf F p (suc i)
@@ -51,29 +52,42 @@ module _ (F : Frame) (p i start : ℕ) (starts : start ≡ indexOf F p 0) where
   pub place : start + i ≡ indexOf F p i
   place = ap (λ (k : ℕ). k + i) starts ∙ index-add F p i
 
+  module _ (m : List ℕ) {w w′ : ℕ} (is : w ≡ w′) where
+    one : (storeOf (start + i) w ∷ []) ≡ storeAt F p i w′ ∷ []
+    one = ap₂ (λ (at x : ℕ). storeOf at x ∷ []) place is ∙ store-at F p i w′ _ refl
+
+    one-if : (if eqb (getD m (start + i) 0) w then [] else storeOf (start + i) w ∷ []) ≡ ifChanged F m p i w′
+    unfolding ifChanged wordAt storeAt
+    one-if = ap₂ (λ (at x : ℕ). if eqb (getD m at 0) x then [] else storeOf at x ∷ []) place is
+
+    pub next-store : Ahead m (storeAt F p i w′ ∷ []) → Ahead m (storeOf (start + i) w ∷ [])
+    next-store a = ahead-of (sym one) a
+
+    pub next-if : Ahead m (ifChanged F m p i w′) → Ahead m (if eqb (getD m (start + i) 0) w then [] else storeOf (start + i) w ∷ [])
+    next-if a = ahead-of (sym one-if) a
+
   module _ (left : Budget) (m : List ℕ) {o : Out} {w w′ : ℕ} (is : w ≡ w′) where
     pub stored : o ≡ run left (storeOf (start + i) w ∷ []) m → o ≡ run left (storeAt F p i w′ ∷ []) m
-    stored said = said ∙ ap₂ (λ (at x : ℕ). run left (storeOf at x ∷ []) m) place is ∙ ap (λ (ss : List Store). run left ss m) (store-at F p i w′ _ refl)
+    stored said = said ∙ ap (λ (ss : List Store). run left ss m) (one m is)
 
     pub stored-if : o ≡ run left (if eqb (getD m (start + i) 0) w then [] else storeOf (start + i) w ∷ []) m → o ≡ run left (ifChanged F m p i w′) m
-    unfolding ifChanged wordAt storeAt
-    stored-if said = said ∙ ap₂ (λ (at x : ℕ). run left (if eqb (getD m at 0) x then [] else storeOf at x ∷ []) m) place is
+    stored-if said = said ∙ ap (λ (ss : List Store). run left ss m) (one-if m is)
 
 -- m′ is m with w at entry i of page p
 pub record Put (F : Frame) (m m′ : List ℕ) (p i w : ℕ) : Type 0 where
   pub size : length m′ ≡ length m
   pub here : wordAt F m′ p i ≡ w
-  pub others : (x j : ℕ) → lent F x ≡ true → j < 512 → (x ≡ p → j ≡ i → ⊥) → wordAt F m′ x j ≡ wordAt F m x j
+  pub others : (x j : ℕ) → lent F x ≡ true → j < WORDS → (x ≡ p → j ≡ i → ⊥) → wordAt F m′ x j ≡ wordAt F m x j
 
 module _ (paw first : ℕ) (m0 : List ℕ) where
   abbrev F : Frame
-  F = record { layout = rv64; paw = paw; first = first; pages = length m0 / 512 }
+  F = record { layout = board; paw = paw; first = first; pages = length m0 / WORDS }
 
-  index-lt : (m : List ℕ) → length m ≡ length m0 → (p i : ℕ) → lent F p ≡ true → i < 512 → indexOf F p i < length m
+  index-lt : (m : List ℕ) → length m ≡ length m0 → (p i : ℕ) → lent F p ≡ true → i < WORDS → indexOf F p i < length m
   unfolding indexOf
   index-lt m len p i lp h = let l = lent-in F p lp in omega (arith, len)
 
-  module _ (m : List ℕ) (len : length m ≡ length m0) (p i w : ℕ) (lp : lent F p ≡ true) (h : i < 512) where
+  module _ (m : List ℕ) (len : length m ≡ length m0) (p i w : ℕ) (lp : lent F p ≡ true) (h : i < WORDS) where
     pub put-set : Put F m (put F m p i w) p i w
     unfolding put wordAt
     put-set =
@@ -102,32 +116,32 @@ module _ (paw first : ℕ) (m0 : List ℕ) where
   -- ---- L1 entries after the edit
 
   module _ (q : Request) (low : q .permission < 4) (b : ℕ) where
-    pub l1-clean : (m : List ℕ) (e : Entry) (i : ℕ) → Good F m e → clean rv64 (l1Word F m q e b i) ≡ true
+    pub l1-clean : (m : List ℕ) (e : Entry) (i : ℕ) → Good F m e → clean board (l1Word F m q e b i) ≡ true
     unfolding clean l1Word
     l1-clean m e i g =
-        every-all (λ k. ltb (digit 16 (pack 16 (afterIn F m q e) 16 (b * 8192 + i * 16)) k) 4) 16 0
-        (λ k l. rw (zero-add k, digit-pack 16 (afterIn F m q e) (after-16 paw first (length m0 / 512) m q low e g) 16 (b * 8192 + i * 16) k l)
-        (lt-ltb _ 4 (after-small paw first (length m0 / 512) m q low e g _)))
+        every-all (λ k. ltb (digit 16 (pack 16 (afterIn F m q e) FIELDS (b * 8192 + i * FIELDS)) k) 4) FIELDS 0
+        (λ k l. rw (zero-add k, digit-pack 16 (afterIn F m q e) (after-16 paw first (length m0 / WORDS) m q low e g) FIELDS (b * 8192 + i * FIELDS) k l)
+        (lt-ltb _ 4 (after-small paw first (length m0 / WORDS) m q low e g _)))
 
     -- the same from memories that have the same old entry
-    pub l1-same : (m m′ : List ℕ) (t i : ℕ) → i < 512 → wordAt F m′ t i ≡ wordAt F m t i → l1Word F m′ q (table t) b i ≡ l1Word F m q (table t) b i
+    pub l1-same : (m m′ : List ℕ) (t i : ℕ) → i < WORDS → wordAt F m′ t i ≡ wordAt F m t i → l1Word F m′ q (table t) b i ≡ l1Word F m q (table t) b i
     unfolding l1Word afterIn pn1
     l1-same m m′ t i h same =
-        pack-cong 16 (afterIn F m′ q (table t)) (afterIn F m q (table t)) 16 (b * 8192 + i * 16)
+        pack-cong 16 (afterIn F m′ q (table t)) (afterIn F m q (table t)) FIELDS (b * 8192 + i * FIELDS)
         (λ k lo hi.
-        let x : k / 16 % 512 ≡ i = omega arith in
+        let x : k / FIELDS % WORDS ≡ i = omega arith in
         ap (λ (y : ℕ). if inRange q k then q .permission else y)
         (ap permOf (found-same F m m′ (table t) k (λ u e. let v : t ≡ u = cc in
-        subst (λ (y : ℕ). wordAt F m′ y (k / 16 % 512) ≡ wordAt F m y (k / 16 % 512)) v
+        subst (λ (y : ℕ). wordAt F m′ y (k / FIELDS % WORDS) ≡ wordAt F m y (k / FIELDS % WORDS)) v
         (ap (λ (j : ℕ). wordAt F m′ t j) x ∙ same ∙ ap (λ (j : ℕ). wordAt F m t j) (sym x))))))
 
     pub l1-plain : (m m′ : List ℕ) (e : Entry) (i : ℕ) → Plain e → l1Word F m′ q e b i ≡ l1Word F m q e b i
     unfolding l1Word afterIn
     l1-plain m m′ e i pl =
-        pack-cong 16 (afterIn F m′ q e) (afterIn F m q e) 16 (b * 8192 + i * 16)
+        pack-cong 16 (afterIn F m′ q e) (afterIn F m q e) FIELDS (b * 8192 + i * FIELDS)
         (λ k lo hi. ap (λ (y : Found). if inRange q k then q .permission else permOf y) (found-same F m m′ e k (λ t z. absurd (subst Plain z pl))))
 
-    pub changed-same : (m m′ : List ℕ) (t i : ℕ) → i < 512 → wordAt F m′ t i ≡ wordAt F m t i
+    pub changed-same : (m m′ : List ℕ) (t i : ℕ) → i < WORDS → wordAt F m′ t i ≡ wordAt F m t i
         → ifChanged F m′ t i (l1Word F m′ q (table t) b i) ≡ ifChanged F m t i (l1Word F m q (table t) b i)
     unfolding ifChanged
     changed-same m m′ t i h same =

@@ -8,6 +8,7 @@ use lib.Dec.{eqb}
 use lib.ListN.{length, getD, length-set}
 use lib.Seq.{getD-set-other}
 use borrow.Author.Tests.{eqb-true, eqb-false}
+use Rattle.entries.specs.Ahead.{Ahead}
 use Rattle.entries.specs.Run.{Out, whole, cut, out, run}
 use Rattle.entries.specs.Rows.{changeAt, rowStores, fillStores, differs}
 use Rattle.entries.specs.declared.Budget.{Budget}
@@ -17,6 +18,7 @@ use Rattle.model.specs.Numbers.{if_then_else_, joined, every}
 use Rattle.model.specs.Stores.{Store, apply}
 use Rattle.table.specs.Stored.{storeOf}
 use Rattle.laws.proofs.Lists.{joined-append, joined-cong}
+use Rattle.entries.proofs.Order.{ahead-of, ahead-joined}
 use Rattle.entries.proofs.Runs.{run-none, run-on, run-off, run-whole}
 
 -- a store of one word, or none, keeps the length and every other word
@@ -46,13 +48,21 @@ module _ (to : ℕ → ℕ) (m0 : List ℕ) (left : Budget) (at : ℕ) where
   unfolding joined
   row-start = record { size = refl; ahead = λ k l. refl; done = sym (run-none left m0) }
 
-  module _ (m : List ℕ) (more : Budget) (i : ℕ) (s : InRow m more i) (w : ℕ) (is : w ≡ to (getD m (at + i) 0)) (o : Out)
-      (said : o ≡ run more (if eqb (getD m (at + i) 0) w then [] else storeOf (at + i) w ∷ []) m) where
+  module _ (m : List ℕ) (more : Budget) (i : ℕ) (s : InRow m more i) (w : ℕ) (is : w ≡ to (getD m (at + i) 0)) where
     here : getD m (at + i) 0 ≡ getD m0 (at + i) 0
     here = s .ahead (at + i) (omega arith)
 
+    change : (if eqb (getD m (at + i) 0) w then [] else storeOf (at + i) w ∷ []) ≡ changeAt m0 to (at + i)
+    change = ap₂ (λ (x y : ℕ). if eqb x y then [] else storeOf (at + i) y ∷ []) here (is ∙ ap to here)
+
+    -- the store of this word is next
+    pub row-ahead : (n : ℕ) → i < n → Ahead m0 (rowStores m0 to n at) → Ahead m (if eqb (getD m (at + i) 0) w then [] else storeOf (at + i) w ∷ [])
+    row-ahead n h a = ahead-of (sym change) (ahead-joined left (changeAt m0 to) n at i h a (s .done))
+
+  module _ (m : List ℕ) (more : Budget) (i : ℕ) (s : InRow m more i) (w : ℕ) (is : w ≡ to (getD m (at + i) 0)) (o : Out)
+      (said : o ≡ run more (if eqb (getD m (at + i) 0) w then [] else storeOf (at + i) w ∷ []) m) where
     step : o ≡ run more (changeAt m0 to (at + i)) m
-    step = said ∙ ap₂ (λ (x y : ℕ). run more (if eqb x y then [] else storeOf (at + i) y ∷ []) m) here (is ∙ ap to here)
+    step = said ∙ ap (λ (ss : List Store). run more ss m) (change m more i s w is)
 
     turn : rowStores m0 to (i + 1) at ≡ rowStores m0 to i at ++ changeAt m0 to (at + i)
     unfolding joined

@@ -79,13 +79,6 @@ module _ (left : Budget) (ss : List Store) (m : List ℕ) where
   pub run-off : {n : List ℕ} → cut n ≡ run left ss m → (ts : List Store) → run left (ss ++ ts) m ≡ cut n
   run-off e ts = run-append left ss ts m ∙ ap (λ (o : Out). andThen o (λ k x. run k ts x)) (sym e)
 
--- the same, of what a function says
-pub first-cut : (left : Budget) (ss : List Store) (m : List ℕ) (o : Out) {n : List ℕ} → o ≡ run left ss m → o ≡ cut n → (ts : List Store) → o ≡ run left (ss ++ ts) m
-first-cut left ss m o said z ts = z ∙ sym (run-off left ss m (sym z ∙ said) ts)
-
-pub then-rest : (left : Budget) (ss : List Store) (m : List ℕ) (l : Budget) (n : List ℕ) (o p : Out) → o ≡ run left ss m → o ≡ whole l n → (ts : List Store) → p ≡ run l ts n → p ≡ run left (ss ++ ts) m
-then-rest left ss m l n o p said z ts e = e ∙ sym (run-on left ss m (sym z ∙ said) ts)
-
 module _ (g : ℕ → List Store) (n i : ℕ) (h : i < n) where
   pub joined-turn : joined g (n - i) i ≡ g i ++ joined g (n - (i + 1)) (i + 1)
   unfolding joined

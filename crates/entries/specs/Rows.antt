@@ -1,14 +1,16 @@
 -- Rows of neighbouring words: each stored if it changes, or all stored.
+use mathlib.Core.Path.{_≡_}
 use mathlib.Core.Bool.{Bool, not}
 use mathlib.Core.List.{List, [], _∷_}
-use Prim.Native.Nat.{ℕ, _+_, _*_}
+use Prim.Native.Nat.{ℕ, _+_, _*_, _≤_, _<_}
 use lib.Dec.{eqb}
 use lib.ListN.{getD}
 use Rattle.model.specs.Numbers.{if_then_else_, joined}
-use Rattle.model.specs.Layout.{rv64}
 use Rattle.model.specs.Entry as entry
 use Rattle.model.specs.Stores as stores
 use Rattle.table.specs.Stored.{storeOf}
+use Rattle.table.specs.Board.{board, EACHPIECE, PIECEENTRY}
+use Rattle.entries.specs.Ahead.{Ahead}
 
 -- the store of word k, which is to become what `to` makes of it, if it changes; and those of n words from at
 abbrev pub changeAt : List ℕ → (ℕ → ℕ) → ℕ → List stores.Store
@@ -27,10 +29,15 @@ differs m word k = not (eqb (getD m k 0) word)
 
 -- the TYPE 6 entry that says the same as an entry without an L1 page; zero for any other
 abbrev pub piecesOf : entry.Entry → ℕ
-piecesOf (entry.flat p) = 0x6000_0000_0000 + p * 0x5555_5555
-piecesOf (entry.pieces info) = 0x6000_0000_0000 + info
+piecesOf (entry.flat p) = PIECEENTRY + p * EACHPIECE
+piecesOf (entry.pieces info) = PIECEENTRY + info
 piecesOf (entry.table t) = 0
 piecesOf entry.invalid = 0
 
 abbrev pub piecesWord : ℕ → ℕ
-piecesWord w = piecesOf (entry.decode rv64 w)
+piecesWord w = piecesOf (entry.decode board w)
+
+-- ahead is the row of the words from at, n at the most, up to the first with an L1 page
+abbrev pub PiecesAhead : List ℕ → ℕ → ℕ → Type 0
+PiecesAhead m n at =
+    (c : ℕ) → c ≤ n → ((k : ℕ) → at ≤ k → k < at + c → piecesWord (getD m k 0) ≡ 0 → ⊥) → Ahead m (rowStores m piecesWord c at)

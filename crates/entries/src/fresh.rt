@@ -10,13 +10,19 @@ use range::Place;
 use range::Request;
 use range::pages::first_entry;
 use range::pages::past_entry;
-use table::Entry;
-use table::Frame;
-use table::PageNumber;
+use types::Entry;
+use types::Frame;
+use types::PageNumber;
+use table::board::PAGE_WORDS;
+use table::board::PIECE_WORDS;
+use table::board::Word;
+use table::board::narrow;
 ghost use mathlib.Core.Path.{_≡_};
 ghost use mathlib.Core.Bool.{true};
 ghost use mathlib.Core.List.{List, [], _∷_};
 ghost use Prim.Native.Nat.{ℕ, _+_, _-_, _*_, _≤_, _<_};
+ghost use Rattle.table.specs.Board.{WORDS, FIELDS, frameOf};
+ghost use Rattle.entries.specs.Ahead.{Ahead};
 ghost use Rattle.entries.specs.Pages.{Plain, newRun};
 ghost use Rattle.entries.specs.Run.{out, run};
 ghost use Rattle.range.specs.Kinds.{requestOf, Fair, Lies, Past};
@@ -24,14 +30,14 @@ ghost use Rattle.model.specs.Forms.{l1Word};
 ghost use Rattle.forms.specs.Kinds.{oldWord};
 ghost use Rattle.model.specs.Frame as frame;
 ghost use Rattle.model.specs.Frame.{lent};
-ghost use Rattle.model.specs.Stores.{storeAt, newTable};
-ghost use Rattle.table.specs.Views.{frameOf, entryOf};
+ghost use Rattle.model.specs.Stores.{Store, storeAt, newTable};
+ghost use Rattle.types.specs.Views.{entryOf};
 ghost use Rattle.theory.specs.Rooted.{Good};
 
 // L1 entry i of block b, in the new page.
 pub fn new_entry(
     f: Frame,
-    words: &mut [u64],
+    words: &mut [Word],
     q: Request,
     e: Entry,
     b: u64,
@@ -39,20 +45,20 @@ pub fn new_entry(
     i: u64,
     left: Budget,
 ) -> Went
-    requires { ⌜ (b < 512) × (i < 512) × Fair q × Good (frameOf f (now words)) (now words) (entryOf e) × (lent (frameOf f (now words)) (new .0) ≡ true) ⌝ }
-    ensures { λ r. ⌜ out (r .all) (r .left) (now (words .exit))
-        ≡ run left (storeAt (frameOf f (now (words .entry))) (new .0) i
-        (l1Word (frameOf f (now (words .entry))) (now (words .entry)) (requestOf q) (entryOf e) b i) ∷ []) (now (words .entry)) ⌝ }
+    ghost { List Store }
+    requires { λ ss. ⌜ ss ≡ (storeAt (frameOf f (now words)) (new .0) i (l1Word (frameOf f (now words)) (now words) (requestOf q) (entryOf e) b i) ∷ []) ⌝ }
+    requires { λ ss. ⌜ (b < 512) × (i < WORDS) × Fair q × Good (frameOf f (now words)) (now words) (entryOf e) × (lent (frameOf f (now words)) (new .0) ≡ true) × Ahead (now words) ss ⌝ }
+    ensures { λ ss r. ⌜ out (r .all) (r .left) (now (words .exit)) ≡ run left ss (now (words .entry)) ⌝ }
 {
     let at = page_at(f, words, new) + i as usize;
-    let word = after_word(f, words, q, e, b, i);
+    let word = narrow(after_word(f, words, q, e, b, i));
     put(words, left, at, word)
 }
 
 // The entries from .. to of a new page, in order.
 pub fn new_entries(
     f: Frame,
-    words: &mut [u64],
+    words: &mut [Word],
     q: Request,
     e: Entry,
     b: u64,
@@ -61,9 +67,10 @@ pub fn new_entries(
     to: u64,
     left: Budget,
 ) -> Went
-    requires { ⌜ (b < 512) × (to ≤ 512) × (from ≤ to) × Fair q × Good (frameOf f (now words)) (now words) (entryOf e) × (lent (frameOf f (now words)) (new .0) ≡ true) × Plain (entryOf e) ⌝ }
-    ensures { λ r. ⌜ out (r .all) (r .left) (now (words .exit))
-        ≡ run left (newRun (frameOf f (now (words .entry))) (now (words .entry)) (requestOf q) (entryOf e) b (new .0) (to - from) from) (now (words .entry)) ⌝ }
+    ghost { List Store }
+    requires { λ ss. ⌜ ss ≡ newRun (frameOf f (now words)) (now words) (requestOf q) (entryOf e) b (new .0) (to - from) from ⌝ }
+    requires { λ ss. ⌜ (b < 512) × (to ≤ WORDS) × (from ≤ to) × Fair q × Good (frameOf f (now words)) (now words) (entryOf e) × (lent (frameOf f (now words)) (new .0) ≡ true) × Plain (entryOf e) × Ahead (now words) ss ⌝ }
+    ensures { λ ss r. ⌜ out (r .all) (r .left) (now (words .exit)) ≡ run left ss (now (words .entry)) ⌝ }
 {
     let mut more = left;
     for i in from..to {
@@ -82,10 +89,10 @@ pub fn new_entries(
 
 // Where the entries from i on stop being the same word, if the edit leaves them as they are: `to` at the latest.
 pub fn same_until(e: Entry, i: u64, to: u64) -> u64
-    requires { ⌜ (i < to) × (to ≤ 512) ⌝ }
+    requires { ⌜ (i < to) × (to ≤ WORDS) ⌝ }
     ensures { λ r. ⌜ (i < r) × (r ≤ to) × ((F : frame.Frame) (m : List ℕ) (k : ℕ) → i ≤ k → k < r → oldWord F m (entryOf e) k ≡ oldWord F m (entryOf e) i) ⌝ }
 {
-    let piece = (i / 32 + 1) * 32;
+    let piece = (i / PIECE_WORDS + 1) * PIECE_WORDS;
     match e {
         Entry::Flat(_) => to,
         Entry::Pieces(_) => { if piece < to { piece } else { to } }
@@ -97,7 +104,7 @@ pub fn same_until(e: Entry, i: u64, to: u64) -> u64
 // The entries from .. to, outside the range and all one word: where the limit allows for them, they are filled without asking at each.
 pub fn old_fill(
     f: Frame,
-    words: &mut [u64],
+    words: &mut [Word],
     q: Request,
     e: Entry,
     b: u64,
@@ -106,16 +113,17 @@ pub fn old_fill(
     to: u64,
     left: Budget,
 ) -> Went
-    requires { ⌜ (b < 512) × (to ≤ 512) × (from < to) × Fair q × Good (frameOf f (now words)) (now words) (entryOf e) × (lent (frameOf f (now words)) (new .0) ≡ true) × Plain (entryOf e)
-        × Lies (requestOf q) (b * 8192 + from * 16) ((to - from) * 16) Place.Outside × ((k : ℕ) → from ≤ k → k < to → oldWord (frameOf f (now words)) (now words) (entryOf e) k ≡ oldWord (frameOf f (now words)) (now words) (entryOf e) from) ⌝ }
-    ensures { λ r. ⌜ out (r .all) (r .left) (now (words .exit))
-        ≡ run left (newRun (frameOf f (now (words .entry))) (now (words .entry)) (requestOf q) (entryOf e) b (new .0) (to - from) from) (now (words .entry)) ⌝ }
+    ghost { List Store }
+    requires { λ ss. ⌜ ss ≡ newRun (frameOf f (now words)) (now words) (requestOf q) (entryOf e) b (new .0) (to - from) from ⌝ }
+    requires { λ ss. ⌜ (b < 512) × (to ≤ WORDS) × (from < to) × Fair q × Good (frameOf f (now words)) (now words) (entryOf e) × (lent (frameOf f (now words)) (new .0) ≡ true) × Plain (entryOf e)
+        × Lies (requestOf q) (b * 8192 + from * FIELDS) ((to - from) * FIELDS) Place.Outside × ((k : ℕ) → from ≤ k → k < to → oldWord (frameOf f (now words)) (now words) (entryOf e) k ≡ oldWord (frameOf f (now words)) (now words) (entryOf e) from) × Ahead (now words) ss ⌝ }
+    ensures { λ ss r. ⌜ out (r .all) (r .left) (now (words .exit)) ≡ run left ss (now (words .entry)) ⌝ }
 {
     let n = to - from;
     if left.more < n {
         return new_entries(f, words, q, e, b, new, from, to, left);
     }
-    let word = old_word(f, words, e, from);
+    let word = narrow(old_word(f, words, e, from));
     let at = page_at(f, words, new) + from as usize;
     let rest = fill(words, at, n as usize, word, left);
     Went {
@@ -127,7 +135,7 @@ pub fn old_fill(
 // The entries from .. to, outside the range: those that are one word at a time.
 pub fn old_entries(
     f: Frame,
-    words: &mut [u64],
+    words: &mut [Word],
     q: Request,
     e: Entry,
     b: u64,
@@ -136,10 +144,11 @@ pub fn old_entries(
     to: u64,
     left: Budget,
 ) -> Went
-    requires { ⌜ (b < 512) × (to ≤ 512) × (from ≤ to) × Fair q × Good (frameOf f (now words)) (now words) (entryOf e) × (lent (frameOf f (now words)) (new .0) ≡ true) × Plain (entryOf e)
-        × Lies (requestOf q) (b * 8192 + from * 16) ((to - from) * 16) Place.Outside ⌝ }
-    ensures { λ r. ⌜ out (r .all) (r .left) (now (words .exit))
-        ≡ run left (newRun (frameOf f (now (words .entry))) (now (words .entry)) (requestOf q) (entryOf e) b (new .0) (to - from) from) (now (words .entry)) ⌝ }
+    ghost { List Store }
+    requires { λ ss. ⌜ ss ≡ newRun (frameOf f (now words)) (now words) (requestOf q) (entryOf e) b (new .0) (to - from) from ⌝ }
+    requires { λ ss. ⌜ (b < 512) × (to ≤ WORDS) × (from ≤ to) × Fair q × Good (frameOf f (now words)) (now words) (entryOf e) × (lent (frameOf f (now words)) (new .0) ≡ true) × Plain (entryOf e)
+        × Lies (requestOf q) (b * 8192 + from * FIELDS) ((to - from) * FIELDS) Place.Outside × Ahead (now words) ss ⌝ }
+    ensures { λ ss r. ⌜ out (r .all) (r .left) (now (words .exit)) ≡ run left ss (now (words .entry)) ⌝ }
 {
     let mut more = left;
     let mut i = from;
@@ -161,8 +170,8 @@ pub fn old_entries(
 
 // Where the entries that the range can meet end, which is not before they begin.
 pub fn near_end(q: Request, b: u64, from: u64) -> u64
-    requires { ⌜ (b < 512) × (from ≤ 512) × Fair q ⌝ }
-    ensures { λ r. ⌜ (from ≤ r) × (r ≤ 512) × Past (requestOf q) b r ⌝ }
+    requires { ⌜ (b < 512) × (from ≤ WORDS) × Fair q ⌝ }
+    ensures { λ r. ⌜ (from ≤ r) × (r ≤ WORDS) × Past (requestOf q) b r ⌝ }
 {
     let past = past_entry(q, b);
     if past < from {
@@ -174,16 +183,17 @@ pub fn near_end(q: Request, b: u64, from: u64) -> u64
 // All entries of a new page, in order: those below the range, those that it can meet, and those above.
 pub fn stores(
     f: Frame,
-    words: &mut [u64],
+    words: &mut [Word],
     q: Request,
     e: Entry,
     b: u64,
     new: PageNumber,
     left: Budget,
 ) -> Went
-    requires { ⌜ (b < 512) × Fair q × Good (frameOf f (now words)) (now words) (entryOf e) × (lent (frameOf f (now words)) (new .0) ≡ true) × Plain (entryOf e) ⌝ }
-    ensures { λ r. ⌜ out (r .all) (r .left) (now (words .exit))
-        ≡ run left (newTable (frameOf f (now (words .entry))) (now (words .entry)) (requestOf q) (entryOf e) b (new .0)) (now (words .entry)) ⌝ }
+    ghost { List Store }
+    requires { λ ss. ⌜ ss ≡ newTable (frameOf f (now words)) (now words) (requestOf q) (entryOf e) b (new .0) ⌝ }
+    requires { λ ss. ⌜ (b < 512) × Fair q × Good (frameOf f (now words)) (now words) (entryOf e) × (lent (frameOf f (now words)) (new .0) ≡ true) × Plain (entryOf e) × Ahead (now words) ss ⌝ }
+    ensures { λ ss r. ⌜ out (r .all) (r .left) (now (words .exit)) ≡ run left ss (now (words .entry)) ⌝ }
 {
     let from = first_entry(q, b);
     let to = near_end(q, b, from);
@@ -197,5 +207,5 @@ pub fn stores(
         return near;
     }
     let rest = near.left;
-    old_entries(f, words, q, e, b, new, to, 512, rest)
+    old_entries(f, words, q, e, b, new, to, PAGE_WORDS as u64, rest)
 }

@@ -5,44 +5,49 @@ use crate::fresh;
 use crate::put::put;
 use forms::words::page_at;
 use range::Request;
-use table::Entry;
-use table::Frame;
-use table::PageNumber;
+use types::Entry;
+use types::Frame;
+use types::PageNumber;
+use table::board::TABLE_ENTRY;
+use table::board::Word;
+use table::board::narrow;
 ghost use mathlib.Core.Path.{_≡_};
 ghost use mathlib.Core.Bool.{true};
-ghost use mathlib.Core.List.{[], _∷_};
+ghost use mathlib.Core.List.{List, [], _∷_};
 ghost use Prim.Native.Nat.{_<_, _^_};
+ghost use Rattle.table.specs.Board.{board, frameOf};
+ghost use Rattle.entries.specs.Ahead.{Ahead};
 ghost use Rattle.entries.specs.Pages.{Plain};
 ghost use Rattle.entries.specs.Run.{out, run};
 ghost use Rattle.range.specs.Kinds.{requestOf, Fair};
 ghost use Rattle.model.specs.Entry.{table, encode};
 ghost use Rattle.model.specs.Frame.{lent};
-ghost use Rattle.model.specs.Layout.{rv64};
-ghost use Rattle.model.specs.Stores.{storeL2, linkTable};
-ghost use Rattle.table.specs.Views.{frameOf, entryOf};
+ghost use Rattle.model.specs.Stores.{Store, storeL2, linkTable};
+ghost use Rattle.types.specs.Views.{entryOf};
 ghost use Rattle.theory.specs.Rooted.{Good};
 
 // The L2 entry of block b that names the page.
 pub fn stores(
     f: Frame,
-    words: &mut [u64],
+    words: &mut [Word],
     root: PageNumber,
     b: u64,
     new: PageNumber,
     left: Budget,
 ) -> Went
-    requires { ⌜ (b < 512) × (lent (frameOf f (now words)) (root .0) ≡ true) × (new .0 < 2 ^ 44) ⌝ }
-    ensures { λ r. ⌜ out (r .all) (r .left) (now (words .exit))
-        ≡ run left (storeL2 (frameOf f (now (words .entry))) (root .0) b (encode rv64 (table (new .0))) ∷ []) (now (words .entry)) ⌝ }
+    ghost { List Store }
+    requires { λ ss. ⌜ ss ≡ (storeL2 (frameOf f (now words)) (root .0) b (encode board (table (new .0))) ∷ []) ⌝ }
+    requires { λ ss. ⌜ (b < 512) × (lent (frameOf f (now words)) (root .0) ≡ true) × (new .0 < 2 ^ board .infoBits) × Ahead (now words) ss ⌝ }
+    ensures { λ ss r. ⌜ out (r .all) (r .left) (now (words .exit)) ≡ run left ss (now (words .entry)) ⌝ }
 {
     let at = page_at(f, words, root) + b as usize;
-    put(words, left, at, 0x4000_0000_0000 + new.0)
+    put(words, left, at, narrow(TABLE_ENTRY + new.0))
 }
 
 // A new page, and then the L2 entry that names it.
 pub fn link_table(
     f: Frame,
-    words: &mut [u64],
+    words: &mut [Word],
     q: Request,
     root: PageNumber,
     e: Entry,
@@ -50,10 +55,11 @@ pub fn link_table(
     new: PageNumber,
     left: Budget,
 ) -> Went
-    requires { ⌜ (b < 512) × Fair q × Good (frameOf f (now words)) (now words) (entryOf e) × (lent (frameOf f (now words)) (new .0) ≡ true) × Plain (entryOf e)
-        × (lent (frameOf f (now words)) (root .0) ≡ true) × (new .0 < 2 ^ 44) ⌝ }
-    ensures { λ r. ⌜ out (r .all) (r .left) (now (words .exit))
-        ≡ run left (linkTable (frameOf f (now (words .entry))) (now (words .entry)) (requestOf q) (root .0) (entryOf e) b (new .0)) (now (words .entry)) ⌝ }
+    ghost { List Store }
+    requires { λ ss. ⌜ ss ≡ linkTable (frameOf f (now words)) (now words) (requestOf q) (root .0) (entryOf e) b (new .0) ⌝ }
+    requires { λ ss. ⌜ (b < 512) × Fair q × Good (frameOf f (now words)) (now words) (entryOf e) × (lent (frameOf f (now words)) (new .0) ≡ true) × Plain (entryOf e)
+        × (lent (frameOf f (now words)) (root .0) ≡ true) × (new .0 < 2 ^ board .infoBits) × Ahead (now words) ss ⌝ }
+    ensures { λ ss r. ⌜ out (r .all) (r .left) (now (words .exit)) ≡ run left ss (now (words .entry)) ⌝ }
 {
     let first = fresh::stores(f, words, q, e, b, new, left);
     if !first.all {

@@ -9,51 +9,56 @@ use range::Request;
 use range::pages::first_entry;
 use range::pages::lies;
 use range::pages::past_entry;
-use table::Entry;
-use table::Frame;
-use table::PageNumber;
+use types::Entry;
+use types::Frame;
+use types::PageNumber;
+use table::board::Word;
+use table::board::narrow;
 ghost use mathlib.Core.Path.{_≡_};
+ghost use mathlib.Core.List.{List};
 ghost use Prim.Native.Nat.{_<_};
+ghost use Rattle.table.specs.Board.{WORDS, frameOf};
+ghost use Rattle.entries.specs.Ahead.{Ahead};
 ghost use Rattle.entries.specs.Run.{out, run};
 ghost use Rattle.range.specs.Kinds.{requestOf, Fair};
 ghost use Rattle.model.specs.Forms.{l1Word};
-ghost use Rattle.model.specs.Stores.{ifChanged, sameTable};
-ghost use Rattle.table.specs.Views.{frameOf};
+ghost use Rattle.model.specs.Stores.{Store, ifChanged, sameTable};
 ghost use Rattle.theory.specs.Rooted.{Good};
 ghost use Rattle.model.specs.Entry as entry;
 
 // L1 entry i of block b, in the block's own page t.
 pub fn same_entry(
     f: Frame,
-    words: &mut [u64],
+    words: &mut [Word],
     q: Request,
     t: PageNumber,
     b: u64,
     i: u64,
     left: Budget,
 ) -> Went
-    requires { ⌜ (b < 512) × (i < 512) × Fair q × Good (frameOf f (now words)) (now words) (entry.table (t .0)) ⌝ }
-    ensures { λ r. ⌜ out (r .all) (r .left) (now (words .exit))
-        ≡ run left (ifChanged (frameOf f (now (words .entry))) (now (words .entry)) (t .0) i
-        (l1Word (frameOf f (now (words .entry))) (now (words .entry)) (requestOf q) (entry.table (t .0)) b i)) (now (words .entry)) ⌝ }
+    ghost { List Store }
+    requires { λ ss. ⌜ ss ≡ ifChanged (frameOf f (now words)) (now words) (t .0) i (l1Word (frameOf f (now words)) (now words) (requestOf q) (entry.table (t .0)) b i) ⌝ }
+    requires { λ ss. ⌜ (b < 512) × (i < WORDS) × Fair q × Good (frameOf f (now words)) (now words) (entry.table (t .0)) × Ahead (now words) ss ⌝ }
+    ensures { λ ss r. ⌜ out (r .all) (r .left) (now (words .exit)) ≡ run left ss (now (words .entry)) ⌝ }
 {
     let at = page_at(f, words, t) + i as usize;
-    let word = after_word(f, words, q, Entry::Table(t), b, i);
+    let word = narrow(after_word(f, words, q, Entry::Table(t), b, i));
     put_changed(words, left, at, word)
 }
 
 // Those L1 entries of block b that change, in order, in the block's own page t. Entries that lie outside the range stay: they are not read.
 pub fn same_table(
     f: Frame,
-    words: &mut [u64],
+    words: &mut [Word],
     q: Request,
     t: PageNumber,
     b: u64,
     left: Budget,
 ) -> Went
-    requires { ⌜ (b < 512) × Fair q × Good (frameOf f (now words)) (now words) (entry.table (t .0)) ⌝ }
-    ensures { λ r. ⌜ out (r .all) (r .left) (now (words .exit))
-        ≡ run left (sameTable (frameOf f (now (words .entry))) (now (words .entry)) (requestOf q) (entry.table (t .0)) b (t .0)) (now (words .entry)) ⌝ }
+    ghost { List Store }
+    requires { λ ss. ⌜ ss ≡ sameTable (frameOf f (now words)) (now words) (requestOf q) (entry.table (t .0)) b (t .0) ⌝ }
+    requires { λ ss. ⌜ (b < 512) × Fair q × Good (frameOf f (now words)) (now words) (entry.table (t .0)) × Ahead (now words) ss ⌝ }
+    ensures { λ ss r. ⌜ out (r .all) (r .left) (now (words .exit)) ≡ run left ss (now (words .entry)) ⌝ }
 {
     let from = first_entry(q, b);
     let to = past_entry(q, b);
@@ -75,15 +80,16 @@ pub fn same_table(
 // The same; outside the range no entry changes.
 pub fn own_table(
     f: Frame,
-    words: &mut [u64],
+    words: &mut [Word],
     q: Request,
     t: PageNumber,
     b: u64,
     left: Budget,
 ) -> Went
-    requires { ⌜ (b < 512) × Fair q × Good (frameOf f (now words)) (now words) (entry.table (t .0)) ⌝ }
-    ensures { λ r. ⌜ out (r .all) (r .left) (now (words .exit))
-        ≡ run left (sameTable (frameOf f (now (words .entry))) (now (words .entry)) (requestOf q) (entry.table (t .0)) b (t .0)) (now (words .entry)) ⌝ }
+    ghost { List Store }
+    requires { λ ss. ⌜ ss ≡ sameTable (frameOf f (now words)) (now words) (requestOf q) (entry.table (t .0)) b (t .0) ⌝ }
+    requires { λ ss. ⌜ (b < 512) × Fair q × Good (frameOf f (now words)) (now words) (entry.table (t .0)) × Ahead (now words) ss ⌝ }
+    ensures { λ ss r. ⌜ out (r .all) (r .left) (now (words .exit)) ≡ run left ss (now (words .entry)) ⌝ }
 {
     match lies(q, b * 8192, 8192) {
         Place::Outside => Went {

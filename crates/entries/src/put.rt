@@ -2,19 +2,24 @@
 use crate::Budget;
 use crate::Went;
 use table::store::store_word;
+use table::board::Word;
 ghost use mathlib.Core.Path.{_≡_};
-ghost use mathlib.Core.List.{[], _∷_};
+ghost use mathlib.Core.List.{List, [], _∷_};
 ghost use Prim.Native.Nat.{_<_};
 ghost use lib.Dec.{eqb};
 ghost use lib.ListN.{length, getD};
+ghost use Rattle.entries.specs.Ahead.{Ahead, Turned};
 ghost use Rattle.entries.specs.Run.{whole, out, run};
 ghost use Rattle.table.specs.Stored.{storeOf};
 ghost use Rattle.model.specs.Numbers.{if_then_else_};
+ghost use Rattle.model.specs.Stores.{Store};
 
-// One store, where one more may be made.
-pub fn put_next(words: &mut [u64], left: Budget, at: usize, word: u64) -> Budget
-    requires { ⌜ (at < length (now words)) × (0 < left .more) ⌝ }
-    ensures { λ r. ⌜ whole r (now (words .exit)) ≡ run left (storeOf at word ∷ []) (now (words .entry)) ⌝ }
+// One store, where one more may be made: the next of an edit's list. Every store of an edit is made here.
+pub fn put_next(words: &mut [Word], left: Budget, at: usize, word: Word) -> Budget
+    ghost { List Store }
+    requires { λ ss. ⌜ ss ≡ (storeOf at word ∷ []) ⌝ }
+    requires { λ ss. ⌜ (at < length (now words)) × (0 < left .more) × Ahead (now words) ss ⌝ }
+    ensures { λ ss r. ⌜ (whole r (now (words .exit)) ≡ run left ss (now (words .entry))) × Turned (now (words .entry)) (now (words .exit)) ⌝ }
 {
     store_word(words, at, word);
     let more = left.more;
@@ -25,9 +30,11 @@ pub fn put_next(words: &mut [u64], left: Budget, at: usize, word: u64) -> Budget
 }
 
 // One store, if one more may be made.
-pub fn put(words: &mut [u64], left: Budget, at: usize, word: u64) -> Went
-    requires { ⌜ at < length (now words) ⌝ }
-    ensures { λ r. ⌜ out (r .all) (r .left) (now (words .exit)) ≡ run left (storeOf at word ∷ []) (now (words .entry)) ⌝ }
+pub fn put(words: &mut [Word], left: Budget, at: usize, word: Word) -> Went
+    ghost { List Store }
+    requires { λ ss. ⌜ ss ≡ (storeOf at word ∷ []) ⌝ }
+    requires { λ ss. ⌜ (at < length (now words)) × Ahead (now words) ss ⌝ }
+    ensures { λ ss r. ⌜ out (r .all) (r .left) (now (words .exit)) ≡ run left ss (now (words .entry)) ⌝ }
 {
     if left.more == 0 {
         return Went {
@@ -43,10 +50,11 @@ pub fn put(words: &mut [u64], left: Budget, at: usize, word: u64) -> Went
 }
 
 // A store, if it changes the word.
-pub fn put_changed(words: &mut [u64], left: Budget, at: usize, word: u64) -> Went
-    requires { ⌜ at < length (now words) ⌝ }
-    ensures { λ r. ⌜ out (r .all) (r .left) (now (words .exit))
-        ≡ run left (if eqb (getD (now (words .entry)) at 0) word then [] else storeOf at word ∷ []) (now (words .entry)) ⌝ }
+pub fn put_changed(words: &mut [Word], left: Budget, at: usize, word: Word) -> Went
+    ghost { List Store }
+    requires { λ ss. ⌜ ss ≡ (if eqb (getD (now words) at 0) word then [] else storeOf at word ∷ []) ⌝ }
+    requires { λ ss. ⌜ (at < length (now words)) × Ahead (now words) ss ⌝ }
+    ensures { λ ss r. ⌜ out (r .all) (r .left) (now (words .exit)) ≡ run left ss (now (words .entry)) ⌝ }
 {
     if words[at] == word {
         return Went {

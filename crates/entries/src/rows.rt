@@ -4,19 +4,30 @@ use crate::Row;
 use crate::Went;
 use crate::put::put_changed;
 use crate::put::put_next;
-use table::Entry;
+use types::Entry;
 use table::word::decode;
+use table::board::EACH_PIECE;
+use table::board::PIECE_ENTRY;
+use table::board::Word;
+use table::board::narrow;
+use table::board::wide;
 ghost use mathlib.Core.Path.{_≡_};
+ghost use mathlib.Core.List.{List};
 ghost use Prim.Native.Nat.{ℕ, _+_, _≤_, _<_};
 ghost use lib.ListN.{length, getD};
 ghost use Rattle.model.specs.Numbers.{every};
+ghost use Rattle.model.specs.Stores.{Store};
+ghost use Rattle.table.specs.Board.{ENTRY};
+ghost use Rattle.entries.specs.Ahead.{Ahead};
 ghost use Rattle.entries.specs.Run.{whole, out, run};
-ghost use Rattle.entries.specs.Rows.{rowStores, fillStores, differs, piecesWord};
+ghost use Rattle.entries.specs.Rows.{rowStores, fillStores, differs, piecesWord, PiecesAhead};
 
 // The n words from at, where as many stores may be made: nothing is asked between them.
-pub fn fill(words: &mut [u64], at: usize, n: usize, word: u64, left: Budget) -> Budget
-    requires { ⌜ (at + n ≤ length (now words)) × (n ≤ left .more) ⌝ }
-    ensures { λ r. ⌜ whole r (now (words .exit)) ≡ run left (fillStores word n at) (now (words .entry)) ⌝ }
+pub fn fill(words: &mut [Word], at: usize, n: usize, word: Word, left: Budget) -> Budget
+    ghost { List Store }
+    requires { λ ss. ⌜ ss ≡ fillStores word n at ⌝ }
+    requires { λ ss. ⌜ (at + n ≤ length (now words)) × (n ≤ left .more) × Ahead (now words) ss ⌝ }
+    ensures { λ ss r. ⌜ whole r (now (words .exit)) ≡ run left ss (now (words .entry)) ⌝ }
 {
     let mut rest = left;
     for i in 0..n {
@@ -26,7 +37,7 @@ pub fn fill(words: &mut [u64], at: usize, n: usize, word: u64, left: Budget) -> 
 }
 
 // Each of the 32 words from at is another than this one. All are read, with no question between them.
-fn all_differ(words: &[u64], at: usize, word: u64) -> bool
+fn all_differ(words: &[Word], at: usize, word: Word) -> bool
     requires { ⌜ at + 32 ≤ length (now words) ⌝ }
     ensures { λ r. ⌜ r ≡ every (differs (now (words .entry)) word) 32 at ⌝ }
 {
@@ -38,9 +49,11 @@ fn all_differ(words: &[u64], at: usize, word: u64) -> bool
 }
 
 // The n words from at are all to be this word.
-fn flat_row(words: &mut [u64], at: usize, n: usize, word: u64, left: Budget) -> Went
-    requires { ⌜ at + n ≤ length (now words) ⌝ }
-    ensures { λ r. ⌜ out (r .all) (r .left) (now (words .exit)) ≡ run left (rowStores (now (words .entry)) (λ w. word) n at) (now (words .entry)) ⌝ }
+fn flat_row(words: &mut [Word], at: usize, n: usize, word: Word, left: Budget) -> Went
+    ghost { List Store }
+    requires { λ ss. ⌜ ss ≡ rowStores (now words) (λ w. word) n at ⌝ }
+    requires { λ ss. ⌜ (at + n ≤ length (now words)) × Ahead (now words) ss ⌝ }
+    ensures { λ ss r. ⌜ out (r .all) (r .left) (now (words .exit)) ≡ run left ss (now (words .entry)) ⌝ }
 {
     let mut more = left;
     for i in 0..n {
@@ -58,9 +71,11 @@ fn flat_row(words: &mut [u64], at: usize, n: usize, word: u64, left: Budget) -> 
 }
 
 // The same. The 32 entries of a GiB, where all change and the limit allows for them, are filled.
-pub fn flat_entries(words: &mut [u64], at: usize, n: usize, word: u64, left: Budget) -> Went
-    requires { ⌜ at + n ≤ length (now words) ⌝ }
-    ensures { λ r. ⌜ out (r .all) (r .left) (now (words .exit)) ≡ run left (rowStores (now (words .entry)) (λ w. word) n at) (now (words .entry)) ⌝ }
+pub fn flat_entries(words: &mut [Word], at: usize, n: usize, word: Word, left: Budget) -> Went
+    ghost { List Store }
+    requires { λ ss. ⌜ ss ≡ rowStores (now words) (λ w. word) n at ⌝ }
+    requires { λ ss. ⌜ (at + n ≤ length (now words)) × Ahead (now words) ss ⌝ }
+    ensures { λ ss r. ⌜ out (r .all) (r .left) (now (words .exit)) ≡ run left ss (now (words .entry)) ⌝ }
 {
     if n != 32 {
         return flat_row(words, at, n, word, left);
@@ -78,21 +93,27 @@ pub fn flat_entries(words: &mut [u64], at: usize, n: usize, word: u64, left: Bud
     }
 }
 
-// The TYPE 6 entry that says the same as an entry without an L1 page; zero for any other.
-pub fn pieces_word(word: u64) -> u64
-    ensures { λ r. ⌜ r ≡ piecesWord word ⌝ }
+// The entry by pieces that says the same as an entry without an L1 page; zero for any other.
+fn pieces_number(word: u64) -> u64
+    ensures { λ r. ⌜ (r ≡ piecesWord word) × (r < ENTRY) ⌝ }
 {
     match decode(word) {
-        Entry::Flat(p) => 0x6000_0000_0000 + p * 0x5555_5555,
-        Entry::Pieces(info) => 0x6000_0000_0000 + info,
+        Entry::Flat(p) => PIECE_ENTRY + p * EACH_PIECE,
+        Entry::Pieces(info) => PIECE_ENTRY + info,
         Entry::Table(_) => 0,
         Entry::Invalid => 0,
     }
 }
 
+pub fn pieces_word(word: Word) -> Word
+    ensures { λ r. ⌜ r ≡ piecesWord word ⌝ }
+{
+    narrow(pieces_number(wide(word)))
+}
+
 // The words from at, n at the most, are to say the same by TYPE 6. An entry with an L1 page ends the row.
-pub fn pieces_row(words: &mut [u64], at: usize, n: usize, left: Budget) -> Row
-    requires { ⌜ at + n ≤ length (now words) ⌝ }
+pub fn pieces_row(words: &mut [Word], at: usize, n: usize, left: Budget) -> Row
+    requires { ⌜ (at + n ≤ length (now words)) × PiecesAhead (now words) n at ⌝ }
     ensures { λ r. ⌜ (r .count ≤ n) × ((k : ℕ) → at ≤ k → k < at + r .count → piecesWord (getD (now (words .entry)) k 0) ≡ 0 → ⊥)
         × (out (r .all) (r .left) (now (words .exit)) ≡ run left (rowStores (now (words .entry)) piecesWord (r .count) at) (now (words .entry))) ⌝ }
 {

@@ -9,8 +9,11 @@ use lib.Dec.{eqb, ltb, leb}
 use lib.Pow.{pow-mono}
 use lib.ListN.{length}
 use borrow.Author.Tests.{eqb-true, ltb-true, ltb-false, leb-true, leb-false}
-use Rattle.table.specs.declared.Frame as code
+use Rattle.types.specs.declared.Frame as code
 use Rattle.range.proofs.InRange.{in-true, below-false, above-false}
+use Rattle.range.proofs.Lawful.{board-lawful}
+use Rattle.table.specs.Board.{board, WORDS, FIELDS, PIECES, PIECE, PIECEBYTES, EACHPIECE, frameOf}
+use Rattle.range.proofs.Lawful.{board-lawful}
 use Rattle.forms.proofs.EvenLaws.{in-at, out-above}
 use Rattle.forms.proofs.FormLaws.{known-form, form-inside, form-flat-out, form-not}
 use Rattle.forms.proofs.GibLaws.{blockIs}
@@ -21,12 +24,9 @@ use Rattle.laws.proofs.Sums.{sum, sum-cong, sum-change, sum-const, sum-split}
 use Rattle.model.specs.Entry.{Entry, flat, pieces, table, invalid}
 use Rattle.model.specs.Forms.{Request, Form, wantFlat, wantPieces, wantTable, inRange, permOf, afterIn, allAre, formIn, gibFirst, gibIsOne, forms, firstGib, gibs}
 use Rattle.model.specs.Frame.{Frame, blocks}
-use Rattle.model.specs.Layout.{rv64}
 use Rattle.model.specs.Numbers.{if_then_else_, digit, pack}
 use Rattle.model.specs.Stores.{needsPage, newPages}
 use Rattle.model.specs.Walk.{entryAt, found, pieceOf}
-use Rattle.table.specs.Views.{frameOf}
-use Rattle.theory.proofs.Entries.{rv64-lawful}
 use Rattle.theory.proofs.Forms.{forms-all, forms-length}
 use Rattle.theory.proofs.Frames.{Ok, frame-ok}
 use Rattle.theory.proofs.Plans.{AllAt}
@@ -61,9 +61,9 @@ table-none e (wantFlat x) z = refl
 table-none e (wantPieces x) z = refl
 table-none e wantTable z = z
 
-module _ (paw first pages : ℕ) (m : List ℕ) (q : Request) (low : q .permission < 4) (e : Entry) (g : Good (record { layout = rv64; paw = paw; first = first; pages = pages }) m e) (b : ℕ) where
+module _ (paw first pages : ℕ) (m : List ℕ) (q : Request) (low : q .permission < 4) (e : Entry) (g : Good (record { layout = board; paw = paw; first = first; pages = pages }) m e) (b : ℕ) where
   abbrev F : Frame
-  F = record { layout = rv64; paw = paw; first = first; pages = pages }
+  F = record { layout = board; paw = paw; first = first; pages = pages }
 
   inside-none : ((k : ℕ) → b * 8192 ≤ k → k < b * 8192 + 8192 → inRange q k ≡ true) → needsPage (formIn F m q false 0 e b) e ≡ false
   inside-none h = no-page e _ _ (form-inside paw first pages m q low e g b h)
@@ -76,8 +76,8 @@ module _ (paw first pages : ℕ) (m : List ℕ) (q : Request) (low : q .permissi
       go (flat p) z = no-page e _ _ (form-flat-out paw first pages m q low e g b h p z)
       go (pieces x) z =
           no-page e _ _
-          (known-form paw first pages m q low e g b (digit 4 x) (pack 4 (digit 4 x) 16 0)
-          (λ i k u lo hi. let y : k % 8192 / 512 ≡ i = omega arith in rw (h k (omega arith) (omega arith), z) (ap (digit 4 x) y)) refl)
+          (known-form paw first pages m q low e g b (digit 4 x) (pack 4 (digit 4 x) PIECES 0)
+          (λ i k u lo hi. let y : k % 8192 / PIECE ≡ i = omega arith in rw (h k (omega arith) (omega arith), z) (ap (digit 4 x) y)) refl)
       go (table t) z = table-none e (formIn F m q false 0 e b) (ap (needsPage wantTable) z)
       go invalid z = no-page e _ _ (known-form paw first pages m q low e g b (λ i. 0) 0 (λ i k u lo hi. rw (h k (omega arith) (omega arith), z)) refl)
 
@@ -86,40 +86,40 @@ module _ (paw first pages : ℕ) (m : List ℕ) (q : Request) (low : q .permissi
   unfolding allAre pack
   one-none p h =
       no-page e _ _
-      (known-form paw first pages m q low e g b (λ i. p) (p * 0x5555_5555)
+      (known-form paw first pages m q low e g b (λ i. p) (p * EACHPIECE)
       (λ i k u lo hi. eqb-true _ _ (every-in (λ n. eqb (afterIn F m q e n) p) 8192 (b * 8192) h k (omega arith) (omega arith))) (omega arith))
 
   -- a block whose pieces each lie in the range or outside it
-  pieces-none : ((i k : ℕ) → i < 16 → b * 8192 + i * 512 ≤ k → k < b * 8192 + i * 512 + 512 → inRange q k ≡ inRange q (b * 8192 + i * 512))
+  pieces-none : ((i k : ℕ) → i < PIECES → b * 8192 + i * PIECE ≤ k → k < b * 8192 + i * PIECE + PIECE → inRange q k ≡ inRange q (b * 8192 + i * PIECE))
       → needsPage (formIn F m q false 0 e b) e ≡ false
   unfolding afterIn found permOf pieceOf needsPage
   pieces-none h = go e refl
     where
       -- the piece's permission, if the entry says of piece i what `says` has
       asked : (ℕ → ℕ) → ℕ → ℕ
-      asked says i = if inRange q (b * 8192 + i * 512) then q .permission else says i
+      asked says i = if inRange q (b * 8192 + i * PIECE) then q .permission else says i
 
-      told : (says : ℕ → ℕ) → ((i k : ℕ) → i < 16 → b * 8192 + i * 512 ≤ k → k < b * 8192 + i * 512 + 512 → permOf (found F m e k) ≡ says i)
+      told : (says : ℕ → ℕ) → ((i k : ℕ) → i < PIECES → b * 8192 + i * PIECE ≤ k → k < b * 8192 + i * PIECE + PIECE → permOf (found F m e k) ≡ says i)
           → needsPage (formIn F m q false 0 e b) e ≡ false
       told says t =
           no-page e _ _
-          (known-form paw first pages m q low e g b (asked says) (pack 4 (asked says) 16 0)
+          (known-form paw first pages m q low e g b (asked says) (pack 4 (asked says) PIECES 0)
           (λ i k u lo hi. ap₂ (λ (x : Bool) (p : ℕ). if x then q .permission else p) (h i k u lo hi) (t i k u lo hi)) refl)
 
       go : (x : Entry) → e ≡ x → needsPage (formIn F m q false 0 e b) e ≡ false
       go (flat p) z = told (λ i. p) (λ i k u lo hi. rw z)
-      go (pieces x) z = told (digit 4 x) (λ i k u lo hi. let y : k % 8192 / 512 ≡ i = omega arith in rw z (ap (digit 4 x) y))
+      go (pieces x) z = told (digit 4 x) (λ i k u lo hi. let y : k % 8192 / PIECE ≡ i = omega arith in rw z (ap (digit 4 x) y))
       go (table t) z = table-none e (formIn F m q false 0 e b) (ap (needsPage wantTable) z)
       go invalid z = told (λ i. 0) (λ i k u lo hi. rw z)
 
 -- a range of whole pieces: each piece lies in it or outside it
-in-or-out : (q : Request) → q .start % 0x20_0000 ≡ 0 → q .size % 0x20_0000 ≡ 0 → (p k : ℕ) → p * 512 ≤ k → k < p * 512 + 512 → inRange q k ≡ inRange q (p * 512)
+in-or-out : (q : Request) → q .start % PIECEBYTES ≡ 0 → q .size % PIECEBYTES ≡ 0 → (p k : ℕ) → p * PIECE ≤ k → k < p * PIECE + PIECE → inRange q k ≡ inRange q (p * PIECE)
 in-or-out q whole-start whole-size p k lo hi =
-    split (inRange q (p * 512))
-    (λ y. in-true q k (omega (arith, in-at q (p * 512) y)) (omega (arith, in-at q (p * 512) y)) ∙ sym y)
-    (λ y. split (leb (q .start) (p * 512 * 4096))
-    (λ l. above-false q k (omega (arith, out-above q (p * 512) y (leb-true (q .start) (p * 512 * 4096) l))) ∙ sym y)
-    (λ l. below-false q k (omega (arith, leb-false (q .start) (p * 512 * 4096) l)) ∙ sym y))
+    split (inRange q (p * PIECE))
+    (λ y. in-true q k (omega (arith, in-at q (p * PIECE) y)) (omega (arith, in-at q (p * PIECE) y)) ∙ sym y)
+    (λ y. split (leb (q .start) (p * PIECE * 4096))
+    (λ l. above-false q k (omega (arith, out-above q (p * PIECE) y (leb-true (q .start) (p * PIECE * 4096) l))) ∙ sym y)
+    (λ l. below-false q k (omega (arith, leb-false (q .start) (p * PIECE * 4096) l)) ∙ sym y))
 
 -- ---- the count
 
@@ -146,7 +146,7 @@ module _ (f : code.Frame) (m : List ℕ) (q : Request) (root : ℕ) (r : Ranged 
   one-at-most c n e = at-most-one (need c) n e
 
   ok : Ok G
-  ok = frame-ok G m rv64-lawful (r .okFrame) .0
+  ok = frame-ok G m board-lawful (r .okFrame) .0
 
   pub ends : q .start + q .size ≤ 2 ^ 34
   ends = omega (arith, good-range G q (r .range) .ends, pow-mono {i = f .paw} {j = 34} (ok .pawHigh))
@@ -181,7 +181,7 @@ module _ (f : code.Frame) (m : List ℕ) (q : Request) (root : ℕ) (r : Ranged 
       split (gibIsOne G m q root g p)
       (λ z.
       ap (λ (x : Bool). needsPage (formIn G m q x p e c) e) z
-      ∙ sym (one-none (f .paw) (f .first .0) (length m / 512) m q (r .small) e (r .rooted .good c v) c p (every-in (blockIs G m q root p) 32 (g * 32) z c l u)))
+      ∙ sym (one-none (f .paw) (f .first .0) (length m / WORDS) m q (r .small) e (r .rooted .good c v) c p (every-in (blockIs G m q root p) 32 (g * 32) z c l u)))
       (λ z. ap (λ (x : Bool). needsPage (formIn G m q x p e c) e) z)
 
   as-sum : (fs : List Form) (b : ℕ) → AllAt (λ c fm. needsPage fm (entryAt G m root c) ≡ need c) b fs → newPages G m root b fs ≡ sum pagesAt (length fs) b
@@ -204,13 +204,13 @@ module _ (f : code.Frame) (m : List ℕ) (q : Request) (root : ℕ) (r : Ranged 
       none c
       (split (ltb c lowBlock)
       (λ z. let y : c < lowBlock = ltb-true c lowBlock z in
-      outside-none (f .paw) (f .first .0) (length m / 512) m q (r .small) e (r .rooted .good c v) c (λ k lo hi. below-false q k (omega arith)))
+      outside-none (f .paw) (f .first .0) (length m / WORDS) m q (r .small) e (r .rooted .good c v) c (λ k lo hi. below-false q k (omega arith)))
       (λ z. let y : lowBlock ≤ c = ltb-false c lowBlock z in
       split (ltb highBlock c)
       (λ x. let w : highBlock < c = ltb-true highBlock c x in
-      outside-none (f .paw) (f .first .0) (length m / 512) m q (r .small) e (r .rooted .good c v) c (λ k lo hi. above-false q k (omega (arith, some))))
+      outside-none (f .paw) (f .first .0) (length m / WORDS) m q (r .small) e (r .rooted .good c v) c (λ k lo hi. above-false q k (omega (arith, some))))
       (λ x. let w : c ≤ highBlock = ltb-false highBlock c x in
-      inside-none (f .paw) (f .first .0) (length m / 512) m q (r .small) e (r .rooted .good c v) c (λ k lo hi. in-true q k (omega arith) (omega (arith, some))))))
+      inside-none (f .paw) (f .first .0) (length m / WORDS) m q (r .small) e (r .rooted .good c v) c (λ k lo hi. in-true q k (omega arith) (omega (arith, some))))))
 
   pub low-inside : lowBlock < blocks G
   low-inside = omega (arith, room, high-touched, some)
@@ -231,13 +231,13 @@ module _ (f : code.Frame) (m : List ℕ) (q : Request) (root : ℕ) (r : Ranged 
       (λ k lo hi nl nh. other k (omega (arith, room)) nl nh))
 
   -- a range of whole pieces takes no page: no piece is mixed that was not
-  pub count-none : q .start % 0x20_0000 ≡ 0 → q .size % 0x20_0000 ≡ 0 → 0 ≡ wholePages G m q root
+  pub count-none : q .start % PIECEBYTES ≡ 0 → q .size % PIECEBYTES ≡ 0 → 0 ≡ wholePages G m q root
   count-none whole-start whole-size =
       sym (whole-sum
       ∙ sum-cong pagesAt (λ c. 0) (gibs q * 32) (firstGib q * 32) (λ c lo hi.
       none c
-      (pieces-none (f .paw) (f .first .0) (length m / 512) m q (r .small) (entryAt G m root c) (r .rooted .good c (omega (arith, room))) c (λ i k u l h.
-      let y : (c * 16 + i) * 512 ≡ c * 8192 + i * 512 = omega arith in
-      in-or-out q whole-start whole-size (c * 16 + i) k (omega arith) (omega arith) ∙ ap (inRange q) y)))
+      (pieces-none (f .paw) (f .first .0) (length m / WORDS) m q (r .small) (entryAt G m root c) (r .rooted .good c (omega (arith, room))) c (λ i k u l h.
+      let y : (c * FIELDS + i) * PIECE ≡ c * 8192 + i * PIECE = omega arith in
+      in-or-out q whole-start whole-size (c * FIELDS + i) k (omega arith) (omega arith) ∙ ap (inRange q) y)))
       ∙ sum-const 0 (gibs q * 32) (firstGib q * 32)
       ∙ omega arith)

@@ -6,6 +6,7 @@ use Prim.Native.Nat.{ℕ, suc, _+_, _*_, _-_, _/_, _%_, _^_, _≤_, _<_}
 use native.Mathlib.Omega.{arith}
 use lib.Dec.{eqb}
 use borrow.Author.Tests.{eqb-true, eqb-false, eq-eqb}
+use Rattle.table.specs.Board.{board, WORDS, FIELDS, PIECES, PIECE, ROW, ENTRY, EACH}
 use Rattle.forms.specs.Kinds.{oldWord, mixedAt}
 use Rattle.laws.proofs.Choices.{split}
 use Rattle.laws.proofs.Digits.{pack-cong, digit-lt, digit-pack, pack-digit}
@@ -13,7 +14,6 @@ use Rattle.laws.proofs.Every.{every-all, every-in}
 use Rattle.model.specs.Entry.{Entry, flat, pieces, table, invalid}
 use Rattle.model.specs.Forms.{Request, inRange, permOf, afterIn, allAre, l1Word}
 use Rattle.model.specs.Frame.{Frame, wordAt}
-use Rattle.model.specs.Layout.{rv64}
 use Rattle.model.specs.Numbers.{if_then_else_, every, digit, pack}
 use Rattle.model.specs.Walk.{found, pn0, pn1, pieceOf}
 use Rattle.theory.specs.Rooted.{Good}
@@ -21,7 +21,7 @@ use Rattle.forms.proofs.Fields.{every-append, field-clean, field-small,
 
 module _ (paw first pages : ℕ) (m : List ℕ) where
   abbrev F : Frame
-  F = record { layout = rv64; paw = paw; first = first; pages = pages }
+  F = record { layout = board; paw = paw; first = first; pages = pages }
 
   pub old-small : (e : Entry) (n : ℕ) → Good F m e → old F m e n < 4
   unfolding found permOf
@@ -31,21 +31,21 @@ module _ (paw first pages : ℕ) (m : List ℕ) where
   old-small invalid n g = omega arith
 
   -- the entry as it stands is its fields' permissions
-  pub old-pack : (e : Entry) (b i : ℕ) → Good F m e → i < 512 → oldWord F m e i < 2 ^ 64 → oldWord F m e i ≡ pack 16 (old F m e) 16 (b * 8192 + i * 16)
+  pub old-pack : (e : Entry) (b i : ℕ) → Good F m e → i < WORDS → oldWord F m e i < ENTRY → oldWord F m e i ≡ pack 16 (old F m e) FIELDS (b * 8192 + i * FIELDS)
   unfolding found permOf pieceOf pn0 pn1
-  old-pack (flat p) b i g h small = sym (pack-const p (b * 8192 + i * 16))
+  old-pack (flat p) b i g h small = sym (pack-const p (b * 8192 + i * FIELDS))
   old-pack (pieces x) b i g h small =
-      sym (pack-const (digit 4 x (i / 32)) (b * 8192 + i * 16))
-      ∙ pack-cong 16 (λ k. digit 4 x (i / 32)) (old F m (pieces x)) 16 (b * 8192 + i * 16)
-      (λ k lo hi. let z : i / 32 ≡ k % 8192 / 512 = omega arith in ap (digit 4 x) z)
+      sym (pack-const (digit 4 x (i / ROW)) (b * 8192 + i * FIELDS))
+      ∙ pack-cong 16 (λ k. digit 4 x (i / ROW)) (old F m (pieces x)) FIELDS (b * 8192 + i * FIELDS)
+      (λ k lo hi. let z : i / ROW ≡ k % 8192 / PIECE = omega arith in ap (digit 4 x) z)
   old-pack (table t) b i g h small =
-      sym (pack-digit 16 (omega arith) 16 (wordAt F m t i) (b * 8192 + i * 16) small)
-      ∙ pack-cong 16 (λ k. digit 16 (wordAt F m t i) (k - (b * 8192 + i * 16))) (old F m (table t)) 16 (b * 8192 + i * 16)
+      sym (pack-digit 16 (omega arith) FIELDS (wordAt F m t i) (b * 8192 + i * FIELDS) small)
+      ∙ pack-cong 16 (λ k. digit 16 (wordAt F m t i) (k - (b * 8192 + i * FIELDS))) (old F m (table t)) FIELDS (b * 8192 + i * FIELDS)
       (λ k lo hi.
-      let x : k / 16 % 512 ≡ i = omega arith in
-      let y : k % 16 ≡ k - (b * 8192 + i * 16) = omega arith in
-      rw (g .0, x, y) (sym (field-clean (wordAt F m t i) (k - (b * 8192 + i * 16)) (g .1 i h) (omega arith))))
-  old-pack invalid b i g h small = sym (pack-const 0 (b * 8192 + i * 16))
+      let x : k / FIELDS % WORDS ≡ i = omega arith in
+      let y : k % FIELDS ≡ k - (b * 8192 + i * FIELDS) = omega arith in
+      rw (g .0, x, y) (sym (field-clean (wordAt F m t i) (k - (b * 8192 + i * FIELDS)) (g .1 i h) (omega arith))))
+  old-pack invalid b i g h small = sym (pack-const 0 (b * 8192 + i * FIELDS))
 
   -- ---- and once the edit is whole
 
@@ -57,48 +57,48 @@ module _ (paw first pages : ℕ) (m : List ℕ) where
     pub after-16 : (n : ℕ) → afterIn F m q e n < 16
     after-16 n = omega (arith, after-small n)
 
-    pub word-inside : (b i : ℕ) → ((k : ℕ) → b * 8192 + i * 16 ≤ k → k < b * 8192 + i * 16 + 16 → inRange q k ≡ true) → q .permission * 0x1111_1111_1111_1111 ≡ l1Word F m q e b i
+    pub word-inside : (b i : ℕ) → ((k : ℕ) → b * 8192 + i * FIELDS ≤ k → k < b * 8192 + i * FIELDS + FIELDS → inRange q k ≡ true) → q .permission * EACH ≡ l1Word F m q e b i
     unfolding l1Word afterIn
     word-inside b i h =
-        sym (pack-const (q .permission) (b * 8192 + i * 16))
-        ∙ pack-cong 16 (λ k. q .permission) (afterIn F m q e) 16 (b * 8192 + i * 16) (λ k lo hi. rw (h k lo hi))
+        sym (pack-const (q .permission) (b * 8192 + i * FIELDS))
+        ∙ pack-cong 16 (λ k. q .permission) (afterIn F m q e) FIELDS (b * 8192 + i * FIELDS) (λ k lo hi. rw (h k lo hi))
 
-    module _ (b i : ℕ) (h : i < 512) (small : oldWord F m e i < 2 ^ 64) where
-      pub word-outside : ((k : ℕ) → b * 8192 + i * 16 ≤ k → k < b * 8192 + i * 16 + 16 → inRange q k ≡ false) → oldWord F m e i ≡ l1Word F m q e b i
+    module _ (b i : ℕ) (h : i < WORDS) (small : oldWord F m e i < ENTRY) where
+      pub word-outside : ((k : ℕ) → b * 8192 + i * FIELDS ≤ k → k < b * 8192 + i * FIELDS + FIELDS → inRange q k ≡ false) → oldWord F m e i ≡ l1Word F m q e b i
       unfolding l1Word afterIn
       word-outside o =
           old-pack e b i g h small
-          ∙ pack-cong 16 (old F m e) (afterIn F m q e) 16 (b * 8192 + i * 16) (λ k lo hi. rw (o k lo hi))
+          ∙ pack-cong 16 (old F m e) (afterIn F m q e) FIELDS (b * 8192 + i * FIELDS) (λ k lo hi. rw (o k lo hi))
 
-      pub word-across : pack 16 (mixedAt q (oldWord F m e i) (b * 8192 + i * 16)) 16 (b * 8192 + i * 16) ≡ l1Word F m q e b i
+      pub word-across : pack 16 (mixedAt q (oldWord F m e i) (b * 8192 + i * FIELDS)) FIELDS (b * 8192 + i * FIELDS) ≡ l1Word F m q e b i
       unfolding l1Word afterIn
       word-across =
-          pack-cong 16 (mixedAt q (oldWord F m e i) (b * 8192 + i * 16)) (afterIn F m q e) 16 (b * 8192 + i * 16)
+          pack-cong 16 (mixedAt q (oldWord F m e i) (b * 8192 + i * FIELDS)) (afterIn F m q e) FIELDS (b * 8192 + i * FIELDS)
           (λ k lo hi.
-          let s : ℕ = b * 8192 + i * 16 in
+          let s : ℕ = b * 8192 + i * FIELDS in
           let z : s + (k - s) ≡ k = omega arith in
           ap (λ (x : ℕ). if inRange q k then q .permission else x)
           (ap (λ (w : ℕ). digit 16 w (k - s)) (old-pack e b i g h small)
-          ∙ digit-pack 16 (old F m e) (λ n. omega (arith, old-small e n g)) 16 s (k - s) (omega arith)
+          ∙ digit-pack 16 (old F m e) (λ n. omega (arith, old-small e n g)) FIELDS s (k - s) (omega arith)
           ∙ ap (old F m e) z))
 
     -- ---- runs of one permission
 
     -- an L1 entry says whether its pages are all of one permission
-    pub word-is : (b i p : ℕ) → p < 4 → eqb (l1Word F m q e b i) (p * 0x1111_1111_1111_1111) ≡ allAre F m q e p 16 (b * 8192 + i * 16)
+    pub word-is : (b i p : ℕ) → p < 4 → eqb (l1Word F m q e b i) (p * EACH) ≡ allAre F m q e p FIELDS (b * 8192 + i * FIELDS)
     unfolding l1Word allAre
     word-is b i p h =
-        let s : ℕ = b * 8192 + i * 16 in
+        let s : ℕ = b * 8192 + i * FIELDS in
         let test : ℕ → Bool = λ k. eqb (afterIn F m q e k) p in
-        split (eqb (pack 16 (afterIn F m q e) 16 s) (p * 0x1111_1111_1111_1111))
-        (λ z. z ∙ sym (every-all test 16 s (λ k l.
+        split (eqb (pack 16 (afterIn F m q e) FIELDS s) (p * EACH))
+        (λ z. z ∙ sym (every-all test FIELDS s (λ k l.
         eq-eqb (afterIn F m q e (s + k)) p
-        (sym (digit-pack 16 (afterIn F m q e) after-16 16 s k l)
+        (sym (digit-pack 16 (afterIn F m q e) after-16 FIELDS s k l)
         ∙ ap (λ (w : ℕ). digit 16 w k) (eqb-true _ _ z ∙ sym (pack-const p s))
-        ∙ digit-pack 16 (λ n. p) (λ n. omega arith) 16 s k l))))
-        (λ z. split (every test 16 s)
+        ∙ digit-pack 16 (λ n. p) (λ n. omega arith) FIELDS s k l))))
+        (λ z. split (every test FIELDS s)
         (λ y. absurd (eqb-false _ _ z
-        (pack-cong 16 (afterIn F m q e) (λ n. p) 16 s (λ k lo hi. eqb-true _ _ (every-in test 16 s y k lo hi)) ∙ pack-const p s)))
+        (pack-cong 16 (afterIn F m q e) (λ n. p) FIELDS s (λ k lo hi. eqb-true _ _ (every-in test FIELDS s y k lo hi)) ∙ pack-const p s)))
         (λ y. z ∙ sym y))
 
     all-next : (p a n s : ℕ) → allAre F m q e p a s ≡ true → allAre F m q e p (a + n) s ≡ allAre F m q e p n (s + a)
@@ -109,31 +109,31 @@ module _ (paw first pages : ℕ) (m : List ℕ) where
     unfolding allAre
     all-stop p a n s z = every-append (λ k. eqb (afterIn F m q e k) p) a n s ∙ rw z
 
-    pub words-next : (b i j p : ℕ) → j < 32 → allAre F m q e p 16 (b * 8192 + (i + j) * 16) ≡ true
-        → allAre F m q e p (512 - j * 16) (b * 8192 + (i + j) * 16) ≡ allAre F m q e p (512 - (j + 1) * 16) (b * 8192 + (i + (j + 1)) * 16)
+    pub words-next : (b i j p : ℕ) → j < ROW → allAre F m q e p FIELDS (b * 8192 + (i + j) * FIELDS) ≡ true
+        → allAre F m q e p (PIECE - j * FIELDS) (b * 8192 + (i + j) * FIELDS) ≡ allAre F m q e p (PIECE - (j + 1) * FIELDS) (b * 8192 + (i + (j + 1)) * FIELDS)
     words-next b i j p h z =
-        let x : 512 - j * 16 ≡ 16 + (512 - (j + 1) * 16) = omega arith in
-        let y : b * 8192 + (i + j) * 16 + 16 ≡ b * 8192 + (i + (j + 1)) * 16 = omega arith in
-        ap (λ (n : ℕ). allAre F m q e p n (b * 8192 + (i + j) * 16)) x ∙ all-next p 16 (512 - (j + 1) * 16) (b * 8192 + (i + j) * 16) z
-        ∙ ap (allAre F m q e p (512 - (j + 1) * 16)) y
+        let x : PIECE - j * FIELDS ≡ FIELDS + (PIECE - (j + 1) * FIELDS) = omega arith in
+        let y : b * 8192 + (i + j) * FIELDS + FIELDS ≡ b * 8192 + (i + (j + 1)) * FIELDS = omega arith in
+        ap (λ (n : ℕ). allAre F m q e p n (b * 8192 + (i + j) * FIELDS)) x ∙ all-next p FIELDS (PIECE - (j + 1) * FIELDS) (b * 8192 + (i + j) * FIELDS) z
+        ∙ ap (allAre F m q e p (PIECE - (j + 1) * FIELDS)) y
 
-    pub words-stop : (b i j p : ℕ) → j < 32 → allAre F m q e p 16 (b * 8192 + (i + j) * 16) ≡ false → allAre F m q e p (512 - j * 16) (b * 8192 + (i + j) * 16) ≡ false
+    pub words-stop : (b i j p : ℕ) → j < ROW → allAre F m q e p FIELDS (b * 8192 + (i + j) * FIELDS) ≡ false → allAre F m q e p (PIECE - j * FIELDS) (b * 8192 + (i + j) * FIELDS) ≡ false
     words-stop b i j p h z =
-        let x : 512 - j * 16 ≡ 16 + (512 - (j + 1) * 16) = omega arith in
-        ap (λ (n : ℕ). allAre F m q e p n (b * 8192 + (i + j) * 16)) x ∙ all-stop p 16 (512 - (j + 1) * 16) (b * 8192 + (i + j) * 16) z
+        let x : PIECE - j * FIELDS ≡ FIELDS + (PIECE - (j + 1) * FIELDS) = omega arith in
+        ap (λ (n : ℕ). allAre F m q e p n (b * 8192 + (i + j) * FIELDS)) x ∙ all-stop p FIELDS (PIECE - (j + 1) * FIELDS) (b * 8192 + (i + j) * FIELDS) z
 
-    pub pieces-next : (b i p : ℕ) → i < 16 → allAre F m q e p 512 (b * 8192 + i * 512) ≡ true
-        → allAre F m q e p (8192 - i * 512) (b * 8192 + i * 512) ≡ allAre F m q e p (8192 - (i + 1) * 512) (b * 8192 + (i + 1) * 512)
+    pub pieces-next : (b i p : ℕ) → i < PIECES → allAre F m q e p PIECE (b * 8192 + i * PIECE) ≡ true
+        → allAre F m q e p (8192 - i * PIECE) (b * 8192 + i * PIECE) ≡ allAre F m q e p (8192 - (i + 1) * PIECE) (b * 8192 + (i + 1) * PIECE)
     pieces-next b i p h z =
-        let x : 8192 - i * 512 ≡ 512 + (8192 - (i + 1) * 512) = omega arith in
-        let y : b * 8192 + i * 512 + 512 ≡ b * 8192 + (i + 1) * 512 = omega arith in
-        ap (λ (n : ℕ). allAre F m q e p n (b * 8192 + i * 512)) x ∙ all-next p 512 (8192 - (i + 1) * 512) (b * 8192 + i * 512) z
-        ∙ ap (allAre F m q e p (8192 - (i + 1) * 512)) y
+        let x : 8192 - i * PIECE ≡ PIECE + (8192 - (i + 1) * PIECE) = omega arith in
+        let y : b * 8192 + i * PIECE + PIECE ≡ b * 8192 + (i + 1) * PIECE = omega arith in
+        ap (λ (n : ℕ). allAre F m q e p n (b * 8192 + i * PIECE)) x ∙ all-next p PIECE (8192 - (i + 1) * PIECE) (b * 8192 + i * PIECE) z
+        ∙ ap (allAre F m q e p (8192 - (i + 1) * PIECE)) y
 
-    pub pieces-stop : (b i p : ℕ) → i < 16 → allAre F m q e p 512 (b * 8192 + i * 512) ≡ false → allAre F m q e p (8192 - i * 512) (b * 8192 + i * 512) ≡ false
+    pub pieces-stop : (b i p : ℕ) → i < PIECES → allAre F m q e p PIECE (b * 8192 + i * PIECE) ≡ false → allAre F m q e p (8192 - i * PIECE) (b * 8192 + i * PIECE) ≡ false
     pieces-stop b i p h z =
-        let x : 8192 - i * 512 ≡ 512 + (8192 - (i + 1) * 512) = omega arith in
-        ap (λ (n : ℕ). allAre F m q e p n (b * 8192 + i * 512)) x ∙ all-stop p 512 (8192 - (i + 1) * 512) (b * 8192 + i * 512) z
+        let x : 8192 - i * PIECE ≡ PIECE + (8192 - (i + 1) * PIECE) = omega arith in
+        ap (λ (n : ℕ). allAre F m q e p n (b * 8192 + i * PIECE)) x ∙ all-stop p PIECE (8192 - (i + 1) * PIECE) (b * 8192 + i * PIECE) z
 
     pub all-none : (p n s : ℕ) → n ≡ 0 → allAre F m q e p n s ≡ true
     unfolding allAre every
@@ -166,10 +166,10 @@ module _ (paw first pages : ℕ) (m : List ℕ) where
         outside′ k z = rw z
 
     -- the first field of an L1 entry
-    pub first-field : (b i : ℕ) → l1Word F m q e b i % 16 ≡ afterIn F m q e (b * 8192 + i * 16)
+    pub first-field : (b i : ℕ) → l1Word F m q e b i % 16 ≡ afterIn F m q e (b * 8192 + i * FIELDS)
     unfolding l1Word digit
     first-field b i =
-        let s : ℕ = b * 8192 + i * 16 in
-        let x : pack 16 (afterIn F m q e) 16 s % 16 ≡ pack 16 (afterIn F m q e) 16 s / 16 ^ 0 % 16 = omega arith in
+        let s : ℕ = b * 8192 + i * FIELDS in
+        let x : pack 16 (afterIn F m q e) FIELDS s % 16 ≡ pack 16 (afterIn F m q e) FIELDS s / 16 ^ 0 % 16 = omega arith in
         let y : s + 0 ≡ s = omega arith in
-        x ∙ digit-pack 16 (afterIn F m q e) after-16 16 s 0 (omega arith) ∙ ap (afterIn F m q e) y
+        x ∙ digit-pack 16 (afterIn F m q e) after-16 FIELDS s 0 (omega arith) ∙ ap (afterIn F m q e) y

@@ -9,6 +9,7 @@ use native.Mathlib.Numerals.{add-one}
 use lib.Dec.{eqb, ltb}
 use lib.Pow.{pow-add}
 use borrow.Author.Tests.{eqb-true, eqb-false, eq-eqb, ne-eqb, ltb-true, leb-true}
+use Rattle.table.specs.Board.{board, FIELDS, PIECES, INFO, EACH, EACHPIECE}
 use Rattle.forms.specs.Kinds.{mixedAt}
 use Rattle.laws.proofs.Choices.{split, and-true, and-both}
 use Rattle.laws.proofs.Digits.{pack-lt}
@@ -16,7 +17,6 @@ use Rattle.laws.proofs.Every.{every-step, every-in}
 use Rattle.model.specs.Entry.{Entry, clean, fieldOf}
 use Rattle.model.specs.Forms.{Request, inRange, permOf}
 use Rattle.model.specs.Frame.{Frame, lent, indexOf}
-use Rattle.model.specs.Layout.{rv64}
 use Rattle.model.specs.Numbers.{every, digit, pack}
 use Rattle.model.specs.Walk.{found}
 
@@ -54,12 +54,12 @@ every-append test (suc a) n s =
 
 -- ---- an L1 entry of one permission
 
-pub pack-const : (p s : ℕ) → pack 16 (λ k. p) 16 s ≡ p * 0x1111_1111_1111_1111
+pub pack-const : (p s : ℕ) → pack 16 (λ k. p) FIELDS s ≡ p * EACH
 unfolding pack
 pack-const p s = omega arith
 
 -- and a TYPE 6 entry's INFO
-pub pack4-const : (p s : ℕ) → p * 0x5555_5555 ≡ pack 4 (λ k. p) 16 s
+pub pack4-const : (p s : ℕ) → p * EACHPIECE ≡ pack 4 (λ k. p) PIECES s
 unfolding pack
 pack4-const p s = omega arith
 
@@ -82,13 +82,13 @@ outside q old s k out = let e : k ≡ s + k - s = omega arith in rw out (ap (dig
 abbrev pub old : Frame → List ℕ → Entry → ℕ → ℕ
 old F m e n = permOf (found F m e n)
 
-pub field-small : (w i : ℕ) → permOf (fieldOf rv64 w i) < 4
+pub field-small : (w i : ℕ) → permOf (fieldOf board w i) < 4
 unfolding permOf fieldOf
 field-small w i = split (ltb (digit 16 w i) 4) (λ z. rw z (ltb-true _ _ z)) (λ z. rw z (omega arith))
 
-pub field-clean : (w i : ℕ) → clean rv64 w ≡ true → i < 16 → permOf (fieldOf rv64 w i) ≡ digit 16 w i
+pub field-clean : (w i : ℕ) → clean board w ≡ true → i < FIELDS → permOf (fieldOf board w i) ≡ digit 16 w i
 unfolding permOf fieldOf clean
-field-clean w i h l = rw (every-in (λ k. ltb (digit 16 w k) 4) 16 0 h i (omega arith) (omega arith))
+field-clean w i h l = rw (every-in (λ k. ltb (digit 16 w k) 4) FIELDS 0 h i (omega arith) (omega arith))
 
 -- ---- a test of a run, from the highest down
 
@@ -103,8 +103,8 @@ every-down test n j h e z =
 pub every-fail : (test : ℕ → Bool) (n k : ℕ) → k < n → test k ≡ false → every test n 0 ≡ false
 every-fail test n k h z = split (every test n 0) (λ y. absurd (true≢false (sym (every-in test n 0 y k (omega arith) (omega arith)) ∙ z))) (λ y. y)
 
-pub pack4-fits : (f : ℕ → ℕ) → ((k : ℕ) → f k < 4) → (j s : ℕ) → j ≤ 16 → pack 4 f j s < 2 ^ 32
-pack4-fits f low j s h = lt-of-lt-of-le (pack-lt 4 f low j s) (pow-le-pow-right {n = 4} (omega arith) {i = j} {j = 16} h)
+pub pack4-fits : (f : ℕ → ℕ) → ((k : ℕ) → f k < 4) → (j s : ℕ) → j ≤ PIECES → pack 4 f j s < INFO
+pack4-fits f low j s h = lt-of-lt-of-le (pack-lt 4 f low j s) (pow-le-pow-right {n = 4} (omega arith) {i = j} {j = PIECES} h)
 
 pub eqb-swap : (a b : ℕ) → eqb a b ≡ eqb b a
 eqb-swap a b = split (eqb a b) (λ z. z ∙ sym (eq-eqb b a (sym (eqb-true a b z)))) (λ z. z ∙ sym (ne-eqb b a (λ y. eqb-false a b z (sym y))))

@@ -7,13 +7,13 @@ use native.Mathlib.Omega.{arith}
 use native.Mathlib.Numerals.{add-one}
 use lib.Dec.{eqb}
 use borrow.Author.Tests.{eq-eqb, eqb-true}
+use Rattle.table.specs.Board.{board, PIECE}
 use Rattle.forms.proofs.EntryLaws.{run-inside}
 use Rattle.laws.proofs.Choices.{split}
 use Rattle.laws.proofs.Every.{every-step, every-all, every-in}
 use Rattle.model.specs.Entry.{Entry}
 use Rattle.model.specs.Forms.{Request, inRange, afterIn, after, allAre, gibFirst, gibIsOne}
 use Rattle.model.specs.Frame.{Frame, blocks}
-use Rattle.model.specs.Layout.{rv64}
 use Rattle.model.specs.Numbers.{if_then_else_, every}
 use Rattle.model.specs.Walk.{entryAt, pn2}
 use Rattle.theory.specs.Rooted.{Good, Rooted}
@@ -45,16 +45,16 @@ pub gib-every : (F : Frame) (m : List ℕ) (q : Request) (root g p : ℕ) → gi
 unfolding gibIsOne
 gib-every F m q root g p = refl
 
-pub first-of : (F : Frame) (m : List ℕ) (q : Request) (root g : ℕ) → afterIn F m q (entryAt F m root (g * 32)) (g * 32 * 8192 + 0 * 512) ≡ gibFirst F m q root g
+pub first-of : (F : Frame) (m : List ℕ) (q : Request) (root g : ℕ) → afterIn F m q (entryAt F m root (g * 32)) (g * 32 * 8192 + 0 * PIECE) ≡ gibFirst F m q root g
 unfolding gibFirst after pn2
 first-of F m q root g =
-    let a : g * 32 * 8192 + 0 * 512 ≡ g * 262144 = omega arith in
+    let a : g * 32 * 8192 + 0 * PIECE ≡ g * 262144 = omega arith in
     let b : g * 32 ≡ g * 262144 / 8192 = omega arith in
     ap₂ (λ (x y : ℕ). afterIn F m q (entryAt F m root x) y) b a
 
 module _ (paw first pages : ℕ) (m : List ℕ) (q : Request) (low : q .permission < 4) (root : ℕ) where
   abbrev F : Frame
-  F = record { layout = rv64; paw = paw; first = first; pages = pages }
+  F = record { layout = board; paw = paw; first = first; pages = pages }
 
   module _ (r : Rooted F m root) (g : ℕ) (fits : g * 32 + 32 ≤ blocks F)
       (h : (k : ℕ) → g * 262144 ≤ k → k < g * 262144 + 262144 → inRange q k ≡ true) where

@@ -12,3 +12,4 @@ pub mod FormLaws
 pub mod EvenLaws
 pub mod GibLaws
 pub mod CountLaws
+pub mod BoardShape

@@ -12,6 +12,7 @@ use Rattle.model.specs.Forms as model
 use Rattle.model.specs.Stores as stores
 use Rattle.model.specs.Calls as calls
 use Rattle.theory.specs.Rooted.{Rooted}
+use Rattle.table.specs.Board.{PIECES, PIECE, ROW, EACH}
 use Rattle.forms.specs.declared.Form.{Form}
 use Rattle.forms.specs.declared.Form.the-variants.{Flat, Pieces, Table}
 use Rattle.forms.specs.declared.Gib.{Gib}
@@ -24,12 +25,12 @@ formOf Table = model.wantTable
 
 -- an L1 entry whose fields are all p
 abbrev pub spreadOf : ℕ → ℕ
-spreadOf p = p * 0x1111_1111_1111_1111
+spreadOf p = p * EACH
 
 -- L1 entry i of a block, as it stands or as its L2 entry gives it
 abbrev pub oldWord : frame.Frame → List ℕ → entry.Entry → ℕ → ℕ
 oldWord F m (entry.flat p) i = spreadOf p
-oldWord F m (entry.pieces info) i = spreadOf (digit 4 info (i / 32))
+oldWord F m (entry.pieces info) i = spreadOf (digit 4 info (i / ROW))
 oldWord F m (entry.table t) i = frame.wordAt F m t i
 oldWord F m entry.invalid i = 0
 
@@ -39,17 +40,17 @@ mixedAt q old s k = if model.inRange q k then q .permission else digit 16 old (k
 
 -- before the edit each page of block b, whose entry is e, is of the permission that info has for its piece
 abbrev pub Even : frame.Frame → List ℕ → entry.Entry → ℕ → ℕ → Type 0
-Even F m e b info = (i k : ℕ) → i < 16 → b * 8192 + i * 512 ≤ k → k < b * 8192 + i * 512 + 512 → model.permOf (walk.found F m e k) ≡ digit 4 info i
+Even F m e b info = (i k : ℕ) → i < PIECES → b * 8192 + i * PIECE ≤ k → k < b * 8192 + i * PIECE + PIECE → model.permOf (walk.found F m e k) ≡ digit 4 info i
 
 -- the page at cuts a piece of block b, with pages on both sides, that by info has another permission than the asked one
 abbrev pub Mixes : model.Request → ℕ → ℕ → ℕ → Bool → Type 0
-Mixes q b info at true = (0 < at % 512) × (at / 8192 ≡ b) × (digit 4 info (at / 512 % 16) ≡ q .permission → ⊥)
-Mixes q b info at false = (i : ℕ) → i < 16 → b * 8192 + i * 512 < at → at < b * 8192 + i * 512 + 512 → digit 4 info i ≡ q .permission
+Mixes q b info at true = (0 < at % PIECE) × (at / 8192 ≡ b) × (digit 4 info (at / PIECE % PIECES) ≡ q .permission → ⊥)
+Mixes q b info at false = (i : ℕ) → i < PIECES → b * 8192 + i * PIECE < at → at < b * 8192 + i * PIECE + PIECE → digit 4 info i ≡ q .permission
 
 -- what piece says is so of piece i of block b, whose entry is e
 abbrev pub PieceIs : frame.Frame → List ℕ → model.Request → entry.Entry → ℕ → ℕ → Piece → Type 0
 PieceIs F m q e b i piece =
-    (piece .p ≡ model.afterIn F m q e (b * 8192 + i * 512)) × (piece .one ≡ model.allAre F m q e (piece .p) 512 (b * 8192 + i * 512)) × (piece .p < 4)
+    (piece .p ≡ model.afterIn F m q e (b * 8192 + i * PIECE)) × (piece .one ≡ model.allAre F m q e (piece .p) PIECE (b * 8192 + i * PIECE)) × (piece .p < 4)
 
 -- what gib says is so of GiB g
 abbrev pub GibIs : frame.Frame → List ℕ → model.Request → ℕ → ℕ → Gib → Type 0

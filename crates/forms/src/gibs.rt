@@ -10,24 +10,26 @@ use range::Place;
 use range::Request;
 use range::pages::lies;
 use range::pages::meets;
-use table::Frame;
-use table::PageNumber;
+use types::Frame;
+use types::PageNumber;
+use table::board::PIECE_BYTES;
+use table::board::Word;
 ghost use mathlib.Core.Path.{_≡_};
 ghost use mathlib.Core.Bool.{false, _&&_};
 ghost use lib.Dec.{eqb};
 ghost use Prim.Native.Nat.{_+_, _*_, _/_, _%_, _≤_, _<_};
 ghost use Rattle.range.specs.Kinds.{requestOf, Fair};
+ghost use Rattle.table.specs.Board.{PIECEBYTES, frameOf};
 ghost use Rattle.forms.specs.Kinds.{GibIs, Ranged, wholePages};
 ghost use Rattle.model.specs.Forms.{formIn, gibFirst, gibIsOne};
 ghost use Rattle.model.specs.Frame.{blocks};
 ghost use Rattle.model.specs.Numbers.{if_then_else_};
 ghost use Rattle.model.specs.Stores.{needsPage};
 ghost use Rattle.model.specs.Walk.{entryAt};
-ghost use Rattle.table.specs.Views.{frameOf};
 ghost use Rattle.theory.specs.Rooted.{Rooted};
 
 // All blocks of GiB g are of permission p.
-pub fn blocks_are(f: Frame, words: &[u64], q: Request, root: PageNumber, g: u64, p: u64) -> bool
+pub fn blocks_are(f: Frame, words: &[Word], q: Request, root: PageNumber, g: u64, p: u64) -> bool
     requires { ⌜ Rooted (frameOf f (now words)) (now words) (root .0) × (g * 32 + 32 ≤ blocks (frameOf f (now words))) × (p < 4) × Fair q ⌝ }
     ensures { λ r. ⌜ r ≡ gibIsOne (frameOf f (now (words .entry))) (now (words .entry)) (requestOf q) (root .0) g p ⌝ }
 {
@@ -41,7 +43,7 @@ pub fn blocks_are(f: Frame, words: &[u64], q: Request, root: PageNumber, g: u64,
 }
 
 // A GiB wholly in the range is of one permission without a read.
-pub fn gib_of(f: Frame, words: &[u64], q: Request, root: PageNumber, g: u64) -> Gib
+pub fn gib_of(f: Frame, words: &[Word], q: Request, root: PageNumber, g: u64) -> Gib
     requires { ⌜ Rooted (frameOf f (now words)) (now words) (root .0) × (g * 32 + 32 ≤ blocks (frameOf f (now words))) × Fair q ⌝ }
     ensures { λ r. ⌜ (r .p ≡ gibFirst (frameOf f (now (words .entry))) (now (words .entry)) (requestOf q) (root .0) g)
         × (r .one ≡ gibIsOne (frameOf f (now (words .entry))) (now (words .entry)) (requestOf q) (root .0) g (r .p)) × (r .p < 4) ⌝ }
@@ -57,7 +59,7 @@ pub fn gib_of(f: Frame, words: &[u64], q: Request, root: PageNumber, g: u64) -> 
 }
 
 // A GiB whose first page has another permission than the asked one is mixed, if the range has a page of it.
-pub fn read_gib(f: Frame, words: &[u64], q: Request, root: PageNumber, g: u64) -> Gib
+pub fn read_gib(f: Frame, words: &[Word], q: Request, root: PageNumber, g: u64) -> Gib
     requires { ⌜ Rooted (frameOf f (now words)) (now words) (root .0) × (g * 32 + 32 ≤ blocks (frameOf f (now words))) × Fair q ⌝ }
     ensures { λ r. ⌜ (r .p ≡ gibFirst (frameOf f (now (words .entry))) (now (words .entry)) (requestOf q) (root .0) g)
         × (r .one ≡ gibIsOne (frameOf f (now (words .entry))) (now (words .entry)) (requestOf q) (root .0) g (r .p)) × (r .p < 4) ⌝ }
@@ -74,7 +76,7 @@ pub fn read_gib(f: Frame, words: &[u64], q: Request, root: PageNumber, g: u64) -
 }
 
 // The first block of a GiB decides for its GiB, before the GiB's first store.
-pub fn gib_at(f: Frame, words: &[u64], q: Request, root: PageNumber, b: u64, gib: Gib) -> Gib
+pub fn gib_at(f: Frame, words: &[Word], q: Request, root: PageNumber, b: u64, gib: Gib) -> Gib
     requires { ⌜ Rooted (frameOf f (now words)) (now words) (root .0) × (b / 32 * 32 + 32 ≤ blocks (frameOf f (now words))) × Fair q
         × ((b % 32 ≡ 0 → ⊥) → GibIs (frameOf f (now words)) (now words) (requestOf q) (root .0) (b / 32) gib) ⌝ }
     ensures { λ r. ⌜ GibIs (frameOf f (now (words .entry))) (now (words .entry)) (requestOf q) (root .0) (b / 32) r ⌝ }
@@ -87,7 +89,7 @@ pub fn gib_at(f: Frame, words: &[u64], q: Request, root: PageNumber, b: u64, gib
 
 // 1 for a block that takes a new page, 0 for any other, from its entry. The GiB need not be known: no block of a GiB of one permission
 // has mixed pieces.
-pub fn read_page(f: Frame, words: &[u64], q: Request, root: PageNumber, b: u64) -> u64
+pub fn read_page(f: Frame, words: &[Word], q: Request, root: PageNumber, b: u64) -> u64
     requires { ⌜ Rooted (frameOf f (now words)) (now words) (root .0) × (b < blocks (frameOf f (now words))) × Fair q ⌝ }
     ensures { λ r. ⌜ r ≡ (if needsPage (formIn (frameOf f (now (words .entry))) (now (words .entry)) (requestOf q) false 0
         (entryAt (frameOf f (now (words .entry))) (now (words .entry)) (root .0) b) b)
@@ -104,7 +106,7 @@ pub fn read_page(f: Frame, words: &[u64], q: Request, root: PageNumber, b: u64) 
 }
 
 // The same; a block inside the range takes none, and is not read.
-pub fn new_page(f: Frame, words: &[u64], q: Request, root: PageNumber, b: u64) -> u64
+pub fn new_page(f: Frame, words: &[Word], q: Request, root: PageNumber, b: u64) -> u64
     requires { ⌜ Rooted (frameOf f (now words)) (now words) (root .0) × (b < blocks (frameOf f (now words))) × Fair q ⌝ }
     ensures { λ r. ⌜ r ≡ (if needsPage (formIn (frameOf f (now (words .entry))) (now (words .entry)) (requestOf q) false 0
         (entryAt (frameOf f (now (words .entry))) (now (words .entry)) (root .0) b) b)
@@ -119,13 +121,13 @@ pub fn new_page(f: Frame, words: &[u64], q: Request, root: PageNumber, b: u64) -
 
 // The range begins and ends between pieces.
 fn whole_pieces(q: Request) -> bool
-    ensures { λ r. ⌜ r ≡ (eqb (q .start .0 % 0x20_0000) 0 && eqb (q .size % 0x20_0000) 0) ⌝ }
+    ensures { λ r. ⌜ r ≡ (eqb (q .start .0 % PIECEBYTES) 0 && eqb (q .size % PIECEBYTES) 0) ⌝ }
 {
-    (q.start.0 % 0x20_0000 == 0) & (q.size % 0x20_0000 == 0)
+    (q.start.0 % PIECE_BYTES == 0) & (q.size % PIECE_BYTES == 0)
 }
 
 // How many new pages the whole edit takes: only the blocks at the two ends of the range can take one, and those of whole pieces take none.
-pub fn new_pages(f: Frame, words: &[u64], q: Request, root: PageNumber) -> u64
+pub fn new_pages(f: Frame, words: &[Word], q: Request, root: PageNumber) -> u64
     requires { ⌜ Ranged (frameOf f (now words)) (now words) (requestOf q) (root .0) ⌝ }
     ensures { λ r. ⌜ (r ≡ wholePages (frameOf f (now (words .entry))) (now (words .entry)) (requestOf q) (root .0)) × (r ≤ 2) ⌝ }
 {

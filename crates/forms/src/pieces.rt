@@ -7,27 +7,35 @@ use crate::words::spread;
 use range::Place;
 use range::Request;
 use range::pages::lies;
-use table::Entry;
-use table::Frame;
+use types::Entry;
+use types::Frame;
 use table::word::piece;
+use table::board::EACH_PIECE;
+use table::board::PIECES;
+use table::board::PIECE_INFO;
+use table::board::PIECE_PAGES;
+use table::board::PIECE_WORDS;
+use table::board::Word;
+use table::store::read_word;
 ghost use mathlib.Core.Path.{_≡_};
 ghost use Prim.Native.Nat.{_+_, _*_, _≤_, _<_};
 ghost use lib.Dec.{eqb};
 ghost use lib.ListN.{length, getD};
 ghost use Rattle.range.specs.Kinds.{requestOf, Fair, Lies};
+ghost use Rattle.table.specs.Board.{WORDS, FIELDS, PIECES, PIECE, ROW, frameOf};
 ghost use Rattle.forms.specs.Kinds.{PieceIs};
 ghost use Rattle.model.specs.Forms.{allAre, afterIn};
 ghost use Rattle.model.specs.Numbers.{every};
-ghost use Rattle.table.specs.Views.{frameOf, entryOf};
+ghost use Rattle.types.specs.Views.{entryOf};
 ghost use Rattle.theory.specs.Rooted.{Good};
 
 // The 32 L1 entries from entry i of block b are all of permission p, once the edit is whole.
-pub fn words_are(f: Frame, words: &[u64], q: Request, e: Entry, b: u64, i: u64, p: u64) -> bool
-    requires { ⌜ (b < 512) × (i + 32 ≤ 512) × (p < 4) × Fair q × Good (frameOf f (now words)) (now words) (entryOf e) ⌝ }
-    ensures { λ r. ⌜ r ≡ allAre (frameOf f (now (words .entry))) (now (words .entry)) (requestOf q) (entryOf e) p 512 (b * 8192 + i * 16) ⌝ }
+pub fn words_are(f: Frame, words: &[Word], q: Request, e: Entry, b: u64, i: u64, p: u64) -> bool
+    requires { ⌜ (b < 512) × (i + ROW ≤ WORDS) × (p < 4) × Fair q × Good (frameOf f (now words)) (now words) (entryOf e) ⌝ }
+    ensures { λ r. ⌜ r ≡ allAre (frameOf f (now (words .entry))) (now (words .entry)) (requestOf q) (entryOf e) p PIECE (b * 8192 + i * FIELDS) ⌝ }
 {
     let want = spread(p);
-    for j in 0..32u64 {
+    for j in 0..PIECE_WORDS {
         if after_word(f, words, q, e, b, i + j) != want {
             return false;
         }
@@ -36,12 +44,12 @@ pub fn words_are(f: Frame, words: &[u64], q: Request, e: Entry, b: u64, i: u64, 
 }
 
 // The 32 words from at are all want.
-pub fn same_words(words: &[u64], at: usize, want: u64) -> bool
-    requires { ⌜ at + 32 ≤ length (now words) ⌝ }
-    ensures { λ r. ⌜ r ≡ every (λ k. eqb (getD (now (words .entry)) k 0) want) 32 at ⌝ }
+pub fn same_words(words: &[Word], at: usize, want: u64) -> bool
+    requires { ⌜ at + ROW ≤ length (now words) ⌝ }
+    ensures { λ r. ⌜ r ≡ every (λ k. eqb (getD (now (words .entry)) k 0) want) ROW at ⌝ }
 {
-    for i in 0..32usize {
-        if words[at + i] != want {
+    for i in 0..PIECE_WORDS as usize {
+        if read_word(words, at + i) != want {
             return false;
         }
     }
@@ -49,15 +57,15 @@ pub fn same_words(words: &[u64], at: usize, want: u64) -> bool
 }
 
 // Piece i of block b, outside the range.
-pub fn old_piece_is(f: Frame, words: &[u64], q: Request, e: Entry, b: u64, i: u64, p: u64) -> bool
-    requires { ⌜ (b < 512) × (i < 16) × (p < 4) × Fair q × Good (frameOf f (now words)) (now words) (entryOf e) × Lies (requestOf q) (b * 8192 + i * 512) 512 Place.Outside ⌝ }
-    ensures { λ r. ⌜ r ≡ allAre (frameOf f (now (words .entry))) (now (words .entry)) (requestOf q) (entryOf e) p 512 (b * 8192 + i * 512) ⌝ }
+pub fn old_piece_is(f: Frame, words: &[Word], q: Request, e: Entry, b: u64, i: u64, p: u64) -> bool
+    requires { ⌜ (b < 512) × (i < PIECES) × (p < 4) × Fair q × Good (frameOf f (now words)) (now words) (entryOf e) × Lies (requestOf q) (b * 8192 + i * PIECE) PIECE Place.Outside ⌝ }
+    ensures { λ r. ⌜ r ≡ allAre (frameOf f (now (words .entry))) (now (words .entry)) (requestOf q) (entryOf e) p PIECE (b * 8192 + i * PIECE) ⌝ }
 {
     match e {
         Entry::Flat(o) => o == p,
         Entry::Pieces(info) => piece(info, i) == p,
         Entry::Table(t) => {
-            let at = page_at(f, words, t) + (i * 32) as usize;
+            let at = page_at(f, words, t) + (i * PIECE_WORDS) as usize;
             same_words(words, at, spread(p))
         }
         Entry::Invalid => p == 0,
@@ -65,23 +73,23 @@ pub fn old_piece_is(f: Frame, words: &[u64], q: Request, e: Entry, b: u64, i: u6
 }
 
 // Piece i of block b is all of permission p, once the edit is whole.
-pub fn piece_is(f: Frame, words: &[u64], q: Request, e: Entry, b: u64, i: u64, p: u64) -> bool
-    requires { ⌜ (b < 512) × (i < 16) × (p < 4) × Fair q × Good (frameOf f (now words)) (now words) (entryOf e) ⌝ }
-    ensures { λ r. ⌜ r ≡ allAre (frameOf f (now (words .entry))) (now (words .entry)) (requestOf q) (entryOf e) p 512 (b * 8192 + i * 512) ⌝ }
+pub fn piece_is(f: Frame, words: &[Word], q: Request, e: Entry, b: u64, i: u64, p: u64) -> bool
+    requires { ⌜ (b < 512) × (i < PIECES) × (p < 4) × Fair q × Good (frameOf f (now words)) (now words) (entryOf e) ⌝ }
+    ensures { λ r. ⌜ r ≡ allAre (frameOf f (now (words .entry))) (now (words .entry)) (requestOf q) (entryOf e) p PIECE (b * 8192 + i * PIECE) ⌝ }
 {
-    match lies(q, b * 8192 + i * 512, 512) {
+    match lies(q, b * 8192 + i * PIECE_PAGES, PIECE_PAGES) {
         Place::Inside => q.permission == p,
         Place::Outside => old_piece_is(f, words, q, e, b, i, p),
-        Place::Across => words_are(f, words, q, e, b, i * 32, p),
+        Place::Across => words_are(f, words, q, e, b, i * PIECE_WORDS, p),
     }
 }
 
 // Block b is all of permission p, once the edit is whole: each of its pieces is.
-pub fn pieces_are(f: Frame, words: &[u64], q: Request, e: Entry, b: u64, p: u64) -> bool
+pub fn pieces_are(f: Frame, words: &[Word], q: Request, e: Entry, b: u64, p: u64) -> bool
     requires { ⌜ (b < 512) × (p < 4) × Fair q × Good (frameOf f (now words)) (now words) (entryOf e) ⌝ }
     ensures { λ r. ⌜ r ≡ allAre (frameOf f (now (words .entry))) (now (words .entry)) (requestOf q) (entryOf e) p 8192 (b * 8192) ⌝ }
 {
-    for i in 0..16u64 {
+    for i in 0..PIECES {
         if !piece_is(f, words, q, e, b, i, p) {
             return false;
         }
@@ -90,20 +98,20 @@ pub fn pieces_are(f: Frame, words: &[u64], q: Request, e: Entry, b: u64, p: u64)
 }
 
 // The same for a block outside the range: its entry says it, unless it has an L1 page.
-pub fn old_block_is(f: Frame, words: &[u64], q: Request, e: Entry, b: u64, p: u64) -> bool
+pub fn old_block_is(f: Frame, words: &[Word], q: Request, e: Entry, b: u64, p: u64) -> bool
     requires { ⌜ (b < 512) × (p < 4) × Fair q × Good (frameOf f (now words)) (now words) (entryOf e) × Lies (requestOf q) (b * 8192) 8192 Place.Outside ⌝ }
     ensures { λ r. ⌜ r ≡ allAre (frameOf f (now (words .entry))) (now (words .entry)) (requestOf q) (entryOf e) p 8192 (b * 8192) ⌝ }
 {
     match e {
         Entry::Flat(o) => o == p,
-        Entry::Pieces(info) => info % 0x1_0000_0000 == p * 0x5555_5555,
+        Entry::Pieces(info) => info % PIECE_INFO == p * EACH_PIECE,
         Entry::Table(_) => pieces_are(f, words, q, e, b, p),
         Entry::Invalid => pieces_are(f, words, q, e, b, p),
     }
 }
 
 // The same for any block.
-pub fn block_is(f: Frame, words: &[u64], q: Request, e: Entry, b: u64, p: u64) -> bool
+pub fn block_is(f: Frame, words: &[Word], q: Request, e: Entry, b: u64, p: u64) -> bool
     requires { ⌜ (b < 512) × (p < 4) × Fair q × Good (frameOf f (now words)) (now words) (entryOf e) ⌝ }
     ensures { λ r. ⌜ r ≡ allAre (frameOf f (now (words .entry))) (now (words .entry)) (requestOf q) (entryOf e) p 8192 (b * 8192) ⌝ }
 {
@@ -115,24 +123,24 @@ pub fn block_is(f: Frame, words: &[u64], q: Request, e: Entry, b: u64, p: u64) -
 }
 
 // The permission of the first page of piece i of block b, once the edit is whole.
-pub fn piece_first(f: Frame, words: &[u64], q: Request, e: Entry, b: u64, i: u64) -> u64
-    requires { ⌜ (b < 512) × (i < 16) × Fair q × Good (frameOf f (now words)) (now words) (entryOf e) ⌝ }
-    ensures { λ r. ⌜ (r ≡ afterIn (frameOf f (now (words .entry))) (now (words .entry)) (requestOf q) (entryOf e) (b * 8192 + i * 512)) × (r < 4) ⌝ }
+pub fn piece_first(f: Frame, words: &[Word], q: Request, e: Entry, b: u64, i: u64) -> u64
+    requires { ⌜ (b < 512) × (i < PIECES) × Fair q × Good (frameOf f (now words)) (now words) (entryOf e) ⌝ }
+    ensures { λ r. ⌜ (r ≡ afterIn (frameOf f (now (words .entry))) (now (words .entry)) (requestOf q) (entryOf e) (b * 8192 + i * PIECE)) × (r < 4) ⌝ }
 {
-    after_word(f, words, q, e, b, i * 32) % 16
+    after_word(f, words, q, e, b, i * PIECE_WORDS) % 16
 }
 
 // The same for a piece outside the range.
-pub fn old_first(f: Frame, words: &[u64], q: Request, e: Entry, b: u64, i: u64) -> u64
-    requires { ⌜ (b < 512) × (i < 16) × Fair q × Good (frameOf f (now words)) (now words) (entryOf e) × Lies (requestOf q) (b * 8192 + i * 512) 512 Place.Outside ⌝ }
-    ensures { λ r. ⌜ (r ≡ afterIn (frameOf f (now (words .entry))) (now (words .entry)) (requestOf q) (entryOf e) (b * 8192 + i * 512)) × (r < 4) ⌝ }
+pub fn old_first(f: Frame, words: &[Word], q: Request, e: Entry, b: u64, i: u64) -> u64
+    requires { ⌜ (b < 512) × (i < PIECES) × Fair q × Good (frameOf f (now words)) (now words) (entryOf e) × Lies (requestOf q) (b * 8192 + i * PIECE) PIECE Place.Outside ⌝ }
+    ensures { λ r. ⌜ (r ≡ afterIn (frameOf f (now (words .entry))) (now (words .entry)) (requestOf q) (entryOf e) (b * 8192 + i * PIECE)) × (r < 4) ⌝ }
 {
-    old_word(f, words, e, i * 32) % 16
+    old_word(f, words, e, i * PIECE_WORDS) % 16
 }
 
 // A piece outside the range: its permission, and whether it is all the piece's.
-pub fn old_piece(f: Frame, words: &[u64], q: Request, e: Entry, b: u64, i: u64) -> Piece
-    requires { ⌜ (b < 512) × (i < 16) × Fair q × Good (frameOf f (now words)) (now words) (entryOf e) × Lies (requestOf q) (b * 8192 + i * 512) 512 Place.Outside ⌝ }
+pub fn old_piece(f: Frame, words: &[Word], q: Request, e: Entry, b: u64, i: u64) -> Piece
+    requires { ⌜ (b < 512) × (i < PIECES) × Fair q × Good (frameOf f (now words)) (now words) (entryOf e) × Lies (requestOf q) (b * 8192 + i * PIECE) PIECE Place.Outside ⌝ }
     ensures { λ r. ⌜ PieceIs (frameOf f (now (words .entry))) (now (words .entry)) (requestOf q) (entryOf e) b i r ⌝ }
 {
     let p = old_first(f, words, q, e, b, i);
@@ -141,8 +149,8 @@ pub fn old_piece(f: Frame, words: &[u64], q: Request, e: Entry, b: u64, i: u64) 
 }
 
 // A piece across an end of the range.
-pub fn cut_piece(f: Frame, words: &[u64], q: Request, e: Entry, b: u64, i: u64) -> Piece
-    requires { ⌜ (b < 512) × (i < 16) × Fair q × Good (frameOf f (now words)) (now words) (entryOf e) ⌝ }
+pub fn cut_piece(f: Frame, words: &[Word], q: Request, e: Entry, b: u64, i: u64) -> Piece
+    requires { ⌜ (b < 512) × (i < PIECES) × Fair q × Good (frameOf f (now words)) (now words) (entryOf e) ⌝ }
     ensures { λ r. ⌜ PieceIs (frameOf f (now (words .entry))) (now (words .entry)) (requestOf q) (entryOf e) b i r ⌝ }
 {
     let p = piece_first(f, words, q, e, b, i);
@@ -151,11 +159,11 @@ pub fn cut_piece(f: Frame, words: &[u64], q: Request, e: Entry, b: u64, i: u64) 
 }
 
 // Piece i of block b, once the edit is whole: where it lies is asked once.
-pub fn piece_at(f: Frame, words: &[u64], q: Request, e: Entry, b: u64, i: u64) -> Piece
-    requires { ⌜ (b < 512) × (i < 16) × Fair q × Good (frameOf f (now words)) (now words) (entryOf e) ⌝ }
+pub fn piece_at(f: Frame, words: &[Word], q: Request, e: Entry, b: u64, i: u64) -> Piece
+    requires { ⌜ (b < 512) × (i < PIECES) × Fair q × Good (frameOf f (now words)) (now words) (entryOf e) ⌝ }
     ensures { λ r. ⌜ PieceIs (frameOf f (now (words .entry))) (now (words .entry)) (requestOf q) (entryOf e) b i r ⌝ }
 {
-    match lies(q, b * 8192 + i * 512, 512) {
+    match lies(q, b * 8192 + i * PIECE_PAGES, PIECE_PAGES) {
         Place::Inside => Piece {
             one: true,
             p: q.permission,

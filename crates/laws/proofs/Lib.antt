@@ -1,5 +1,10 @@
 -- What the theory, the cases and the code's proofs share below any table:
 --
+--   Tests      facts of tests on the way, as the Booleans of a definition: `search tests`
+--   Frames     what a frame within its bounds is; lent pages; where an entry stands
+--   Shifts     digits by shifts
+--   Decoded    what an L2 entry says, by the number above its INFO
+--   Reserved   the reserved bits of an L1 entry, and of many, by a mask
 --   Choices    tests: by cases, and what a true or false `&&`, `||`, `not` says
 --   Every      `every`, the test over a run of numbers: its steps, what it gives, what gives it
 --   Lists      `each`, `member`, `distinct` and `joined`, one step at a time
@@ -18,3 +23,8 @@ pub mod Digits
 pub mod Splices
 pub mod Peeks
 pub mod PageRuns
+pub mod Tests
+pub mod Frames
+pub mod Shifts
+pub mod Decoded
+pub mod Reserved

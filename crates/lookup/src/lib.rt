@@ -1,20 +1,22 @@
 // The lookup: frame, register, privilege, Bare, walk, permission.
-use table::Address;
-use table::Answer;
-use table::Cause;
-use table::Entry;
-use table::Found;
-use table::Frame;
-use table::Kind;
-use table::Need;
-use table::PageNumber;
-use table::Permission;
-use table::Privilege;
-use table::Refusal;
+use types::Address;
+use types::Answer;
+use types::Cause;
+use types::Entry;
+use types::Found;
+use types::Frame;
+use types::Kind;
+use types::Need;
+use types::PageNumber;
+use types::Permission;
+use types::Privilege;
+use types::Refusal;
+use table::board::Word;
 use table::lent;
 use table::page;
 use table::register;
-use table::rights;
+use table::store::read_word;
+use types::rights;
 use table::word;
 ghost use mathlib.Core.Path.{_≡_};
 ghost use mathlib.Core.Bool.{true};
@@ -23,35 +25,36 @@ ghost use Rattle.model.specs.Frame.{boundsOk};
 ghost use Rattle.model.specs.Walk as walk;
 ghost use Rattle.model.specs.Access as access;
 ghost use Rattle.model.specs.Lookup as lookup;
-ghost use Rattle.table.specs.Views.{frameOf, entryOf, foundOf, permissionNumber, needOf, kindOf, causeNumber, privilegeOf, answerOf};
+ghost use Rattle.table.specs.Board.{frameOf};
+ghost use Rattle.types.specs.Views.{entryOf, foundOf, permissionNumber, needOf, kindOf, causeNumber, privilegeOf, answerOf};
 ghost use Rattle.lookup.specs.Granted.{grantedOf};
 ghost use Rattle.table.specs.Bounds.{Small};
 
 // The first stage: L2 entry b of a root, decoded once. It says nothing where the root page is not lent.
-pub fn entry_at(f: Frame, words: &[u64], root: PageNumber, b: u64) -> Entry
+pub fn entry_at(f: Frame, words: &[Word], root: PageNumber, b: u64) -> Entry
     requires { ⌜ b < 512 ⌝ }
     ensures { λ r. ⌜ (entryOf r ≡ walk.entryAt (frameOf f (now (words .entry))) (now (words .entry)) (root .0) b) × Small (entryOf r) ⌝ }
 {
     if lent::is_lent(f, words.len(), root) {
         let at = lent::page_start(f, words.len(), root) + b as usize;
-        return word::decode(words[at]);
+        return word::decode(read_word(words, at));
     }
     Entry::Invalid
 }
 
 // The field of an L1 page that speaks for a page: the entry by pn[1], its field by pn[0].
-fn in_table(f: Frame, words: &[u64], table: PageNumber, number: PageNumber) -> Found
+fn in_table(f: Frame, words: &[Word], table: PageNumber, number: PageNumber) -> Found
     ensures { λ r. ⌜ foundOf r ≡ walk.found (frameOf f (now (words .entry))) (now (words .entry)) (entryOf (Entry.Table table)) (number .0) ⌝ }
 {
     if lent::is_lent(f, words.len(), table) {
         let at = lent::page_start(f, words.len(), table) + page::pn1(number) as usize;
-        return word::field_found(words[at], page::pn0(number));
+        return word::field_found(read_word(words, at), page::pn0(number));
     }
     Found::Fault
 }
 
 // The second stage: what an L2 entry finds for a page of its block.
-pub fn found(f: Frame, words: &[u64], e: Entry, number: PageNumber) -> Found
+pub fn found(f: Frame, words: &[Word], e: Entry, number: PageNumber) -> Found
     requires { ⌜ Small (entryOf e) ⌝ }
     ensures { λ r. ⌜ foundOf r ≡ walk.found (frameOf f (now (words .entry))) (now (words .entry)) (entryOf e) (number .0) ⌝ }
 {
@@ -66,7 +69,7 @@ pub fn found(f: Frame, words: &[u64], e: Entry, number: PageNumber) -> Found
 }
 
 // "An address of 2^PAW or more faults."
-pub fn walk(f: Frame, words: &[u64], root: PageNumber, number: PageNumber) -> Found
+pub fn walk(f: Frame, words: &[Word], root: PageNumber, number: PageNumber) -> Found
     requires { ⌜ boundsOk (frameOf f (now words)) ≡ true ⌝ }
     ensures { λ r. ⌜ foundOf r ≡ walk.walk (frameOf f (now (words .entry))) (now (words .entry)) (root .0) (number .0) ⌝ }
 {
@@ -106,8 +109,8 @@ fn judge(found: Found, need: Need, cause: Cause) -> Answer
 // needs, and its fault, are asked before the walk: the answer is then one choice between two values at hand.
 pub fn lookup(
     f: Frame,
-    words: &[u64],
-    register: u64,
+    words: &[Word],
+    register: Word,
     who: Privilege,
     kind: Kind,
     a: Address,

@@ -5,15 +5,15 @@ use io::print_hex;
 use io::write_all;
 use libc::STDOUT_FILENO;
 use lookup::lookup;
-use table::Access;
-use table::Address;
-use table::Answer;
-use table::Frame;
-use table::Kind;
-use table::PageNumber;
-use table::Privilege;
-use table::number::of_cause;
-use table::number::of_refusal;
+use types::Access;
+use types::Address;
+use types::Answer;
+use types::Frame;
+use types::Kind;
+use types::PageNumber;
+use types::Privilege;
+use types::number::of_cause;
+use types::number::of_refusal;
 
 // Slot 0 opened with SDID 5 at page 0x80000.
 const REGISTER: u64 = 0x1140_0000_0008_0000;

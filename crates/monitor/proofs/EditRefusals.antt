@@ -12,7 +12,7 @@ use Rattle.model.specs.Sound.{Slot, roots, sound, freePages}
 use Rattle.model.specs.Forms.{Request, forms, firstGib}
 use Rattle.model.specs.Stores.{Store, newPages}
 use Rattle.model.specs.Calls.{Outcome, edited, firstMet, registerFor, rootOf, refuse, badRange, meetsLent, finished, editRefusalWith, editRefusal, storeList, made, editWith, editSlot}
-use Rattle.table.specs.Views.{fenceOf}
+use Rattle.types.specs.Views.{fenceOf}
 use Rattle.edit.specs.declared.Made.{Made}
 use Rattle.edit.specs.Done.{IsMade}
 use Rattle.slots.specs.Named.{notOpen}

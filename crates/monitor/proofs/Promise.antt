@@ -20,17 +20,18 @@ use Rattle.model.specs.Stores.{Store, apply}
 use Rattle.model.specs.Calls as model
 use Rattle.model.specs.Calls.{editRefusal, editSlot, editWith, made, refuse, storeList}
 use Rattle.model.specs.Demands.{Accepted, BeforeOrAfter, Done, SamePermissions, Typed, calls, freeCount, stopped, whole}
-use Rattle.theory.proofs.Entries.{rv64-lawful}
-use Rattle.theory.proofs.Demands.{demand2, demand3, edit-stopped, one-more, rv64-most}
-use Rattle.table.specs.declared.Frame.{Frame}
-use Rattle.table.specs.declared.Permission.{Permission}
-use Rattle.table.specs.declared.Permission.the-variants.{None, Rx, Rw, Rwx}
-use Rattle.table.specs.Views.{frameOf, frameOver, permissionNumber}
+use Rattle.theory.proofs.Demands.{demand2, demand3, edit-stopped, one-more, most-stores}
+use Rattle.types.specs.declared.Frame.{Frame}
+use Rattle.types.specs.declared.Permission.{Permission}
+use Rattle.types.specs.declared.Permission.the-variants.{None, Rx, Rw, Rwx}
+use Rattle.types.specs.Views.{permissionNumber}
 use Rattle.slots.specs.declared.Outcome.{Outcome}
 use Rattle.slots.specs.declared.Reply.{Reply}
 use Rattle.slots.specs.declared.Reply.the-variants.{Refused, Opened, Closed, Edited}
 use Rattle.slots.specs.Outcomes.{replyOf}
 use Rattle.monitor.specs.Promise.{After, Call, Ending, Kept, request, reset, returned}
+use Rattle.table.specs.Board.{board, WORDS, ENTRY, frameOf, frameOver}
+use Rattle.range.proofs.Lawful.{board-lawful}
 
 -- the parts of an answer
 abbrev isEdited : model.Reply → Bool
@@ -75,7 +76,7 @@ taken-fewer zero l = omega arith
 taken-fewer (suc n) [] = omega arith
 taken-fewer (suc n) (x ∷ xs) = omega (arith, taken-fewer n xs)
 
-module _ (f : Frame) (slots : List ℕ) (slot start size : ℕ) (permission : Permission) (m : List ℕ) (words : (i : ℕ) → getD m i 0 < 2 ^ 64) where
+module _ (f : Frame) (slots : List ℕ) (slot start size : ℕ) (permission : Permission) (m : List ℕ) (words : (i : ℕ) → getD m i 0 < ENTRY) where
   abbrev F : Frames.Frame
   F = frameOf f m
 
@@ -103,7 +104,7 @@ module _ (f : Frame) (slots : List ℕ) (slot start size : ℕ) (permission : Pe
   call-stops limit n r n′ h a c =
       ap (λ (o : model.Outcome). o .memory) c
       ∙ ap (λ (G : Frames.Frame). editSlot G n slots q limit .memory) (same-frame n h)
-      ∙ edit-stopped F rv64-lawful slots q n limit a .0
+      ∙ edit-stopped F board-lawful slots q n limit a .0
 
   replies : (limit : ℕ) (n : List ℕ) → Accepted F slots q n
       → editSlot F n slots q limit .reply ≡ model.edited (length (take limit (storeList F n slots q))) (leb (length (storeList F n slots q)) limit)
@@ -132,27 +133,27 @@ module _ (f : Frame) (slots : List ℕ) (slot start size : ℕ) (permission : Pe
     cuts (returned limit r m₁ ∷ es) ks n h =
         cuts es (ks ++ (limit ∷ [])) n
         (subst (λ (x : List ℕ). After f slots slot start size permission es x n)
-        (call-stops limit (calls F slots q ks m) r m₁ (calls-length ks m) (demand3 F rv64-lawful slots q m typed accepted ks .accepted) (h .0)
-        ∙ sym (one-more F rv64-lawful slots q ks limit m))
+        (call-stops limit (calls F slots q ks m) r m₁ (calls-length ks m) (demand3 F board-lawful slots q m typed accepted ks .accepted) (h .0)
+        ∙ sym (one-more F board-lawful slots q ks limit m))
         (h .1))
     cuts (reset k ∷ es) ks n h =
         let at : List ℕ = calls F slots q ks m in
         cuts es (ks ++ (k ∷ [])) n
         (subst (λ (x : List ℕ). After f slots slot start size permission es x n)
-        (ap (λ (G : Frames.Frame). stopped G slots q k at) (same-frame at (calls-length ks m)) ∙ sym (one-more F rv64-lawful slots q ks k m)) h)
+        (ap (λ (G : Frames.Frame). stopped G slots q k at) (same-frame at (calls-length ks m)) ∙ sym (one-more F board-lawful slots q ks k m)) h)
 
     asks : Done F slots q m (whole F slots q m)
     asks =
         let n : ℕ = length (storeList F m slots q) in
-        subst (Done F slots q m) (edit-stopped F rv64-lawful slots q m n accepted .0 ∙ stopped-whole n m (omega arith))
-        (demand2 F rv64-lawful slots q m n typed accepted (omega arith))
+        subst (Done F slots q m) (edit-stopped F board-lawful slots q m n accepted .0 ∙ stopped-whole n m (omega arith))
+        (demand2 F board-lawful slots q m n typed accepted (omega arith))
 
     -- what one more call after a list of cuts answers and leaves
     next : (ks : List ℕ) (limit : ℕ) (r : Outcome) (n : List ℕ) → Call f slots slot start size permission limit (calls F slots q ks m) r n
         → Kept f slots slot start size permission m r n
     next ks limit r n c =
         let at : List ℕ = calls F slots q ks m in
-        let ok : Accepted F slots q at = demand3 F rv64-lawful slots q m typed accepted ks .accepted in
+        let ok : Accepted F slots q at = demand3 F board-lawful slots q m typed accepted ks .accepted in
         let list : List Store = storeList F at slots q in
         let stops : n ≡ stopped F slots q limit at = call-stops limit at r n (calls-length ks m) ok c in
         let here : editSlot (frameOf f at) at slots q limit ≡ editSlot F at slots q limit = ap (λ (G : Frames.Frame). editSlot G at slots q limit) (same-frame at (calls-length ks m)) in
@@ -160,14 +161,14 @@ module _ (f : Frame) (slots : List ℕ) (slot start size : ℕ) (permission : Pe
           count = length (take limit list);
           all = leb (length list) limit;
           accepted = is-edited (r .reply) _ _ (ap (λ (o : model.Outcome). o .reply) (c ∙ here) ∙ replies limit at ok);
-          slotsKept = ap (λ (o : model.Outcome). o .slots) (c ∙ here) ∙ edit-stopped F rv64-lawful slots q at limit ok .1;
-          few = omega (arith, taken-fewer limit list, rv64-most (f .paw) (f .first .0) (length m / 512) slots q m typed accepted ks);
+          slotsKept = ap (λ (o : model.Outcome). o .slots) (c ∙ here) ∙ edit-stopped F board-lawful slots q at limit ok .1;
+          few = omega (arith, taken-fewer limit list, most-stores F board-lawful slots q m typed accepted ks);
           asks = asks;
-          steady = subst (BeforeOrAfter F slots m (whole F slots q m)) (one-more F rv64-lawful slots q ks limit m ∙ sym stops)
-              (demand3 F rv64-lawful slots q m typed accepted (ks ++ (limit ∷ [])) .steady);
+          steady = subst (BeforeOrAfter F slots m (whole F slots q m)) (one-more F board-lawful slots q ks limit m ∙ sym stops)
+              (demand3 F board-lawful slots q m typed accepted (ks ++ (limit ∷ [])) .steady);
           samePermissions = λ t. subst (λ (x : List ℕ). SamePermissions F slots x (whole F slots q m)) (sym (stops ∙ stopped-whole limit at (leb-true _ _ t)))
-              (demand3 F rv64-lawful slots q m typed accepted ks .samePermissions);
-          sameFree = λ t. ap (freeCount F slots) (stops ∙ stopped-whole limit at (leb-true _ _ t)) ∙ demand3 F rv64-lawful slots q m typed accepted ks .sameFree;
+              (demand3 F board-lawful slots q m typed accepted ks .samePermissions);
+          sameFree = λ t. ap (freeCount F slots) (stops ∙ stopped-whole limit at (leb-true _ _ t)) ∙ demand3 F board-lawful slots q m typed accepted ks .sameFree;
         }
 
   -- a first call was accepted, with whatever limit; calls were made and cut, as many as may be; then the next one

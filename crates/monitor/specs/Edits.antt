@@ -6,7 +6,7 @@ use Prim.Native.Nat.{ℕ, _<_}
 use Rattle.model.specs.Forms.{Request}
 use Rattle.model.specs.Frame.{Frame, frameOk}
 use Rattle.model.specs.Sound.{Slot, roots, sound, freePages}
-use Rattle.sound.specs.Free.{clearPages}
+use Rattle.scan.specs.Free.{clearPages}
 use Rattle.slots.specs.Named.{notOpen}
 
 abbrev pub asked : ℕ → ℕ → ℕ → ℕ → Request

@@ -2,17 +2,18 @@
 use mathlib.Core.Path.{_≡_}
 use mathlib.Core.Bool.{Bool, true}
 use mathlib.Core.List.{List, [], _∷_}
-use Prim.Native.Nat.{ℕ, _≤_}
+use Prim.Native.Nat.{ℕ, _≤_, suc, _+_, _-_, _*_, _^_}
 use Rattle.model.specs.Forms.{Request}
 use Rattle.model.specs.Calls.{editSlot}
 use Rattle.model.specs.Demands.{BeforeOrAfter, Done, SamePermissions, freeCount, stopped, whole}
-use Rattle.table.specs.declared.Frame.{Frame}
-use Rattle.table.specs.declared.Permission.{Permission}
-use Rattle.table.specs.Views.{frameOf, permissionNumber}
+use Rattle.types.specs.declared.Frame.{Frame}
+use Rattle.types.specs.declared.Permission.{Permission}
+use Rattle.types.specs.Views.{permissionNumber}
 use Rattle.slots.specs.declared.Outcome.{Outcome}
 use Rattle.slots.specs.declared.Reply.the-variants.{Edited}
 use Rattle.slots.specs.Outcomes.{outcomeOf}
 use Rattle.monitor.specs.Edits.{asked}
+use Rattle.table.specs.Board.{board, frameOf}
 
 -- how one call ends: it returns, or a watchdog resets the board after so many of its stores
 pub data Ending : Type 0 where
@@ -41,7 +42,8 @@ module _ (f : Frame) (slots : List ℕ) (slot start size : ℕ) (permission : Pe
     -- it is not refused
     pub accepted : r .reply ≡ Edited count all
     pub slotsKept : r .slots ≡ slots
-    pub few : count ≤ 1536
+    -- 1,536 on RV64, 2,560 on RV32
+    pub few : count ≤ 2 ^ (board .maxPaw - 25) - 2 + 2 * suc (board .words)
     -- "after" is what was asked: the permission on every address of the range, every other address of every domain as it read
     pub asks : Done (frameOf f m) slots request m (whole (frameOf f m) slots request m)
     -- every address of every domain reads as before the first call or as after the whole edit

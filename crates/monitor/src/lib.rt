@@ -14,25 +14,27 @@ pub use slots::open;
 use slots::refused;
 use sound::check;
 use sound::pick::free_pages;
-use table::Address;
-use table::Frame;
-use table::Permission;
-use table::Refusal;
+use types::Address;
+use types::Frame;
+use types::Permission;
+use types::Refusal;
 use table::lent;
 use table::register;
-use table::rights;
+use types::rights;
+use table::board::Word;
 ghost use mathlib.Core.Path.{_≡_};
 ghost use Rattle.model.specs.Calls as calls;
-ghost use Rattle.table.specs.Views.{frameOf, permissionNumber};
+ghost use Rattle.types.specs.Views.{permissionNumber};
 ghost use Rattle.slots.specs.Outcomes.{outcomeOf};
 ghost use Rattle.range.specs.Kinds.{requestOf};
 ghost use Rattle.monitor.specs.Edits.{asked, InOpenSlot};
+ghost use Rattle.table.specs.Board.{frameOf};
 
 // An edit in an open slot of a sound table, whose marks are at hand. Refusals 5, 6, 7, in this order, and then the stores.
 fn edit_open(
     f: Frame,
-    words: &mut [u64],
-    slots: [u64; 8],
+    words: &mut [Word],
+    slots: [Word; 8],
     q: Request,
     used: &[bool; 256],
     limit: u64,
@@ -66,8 +68,8 @@ fn edit_open(
 // "An edit names a slot, start, length, permission (one of the four) and a limit on stores." Refusals 1, 3, 4 here, and then as above.
 pub fn edit(
     f: Frame,
-    words: &mut [u64],
-    slots: [u64; 8],
+    words: &mut [Word],
+    slots: [Word; 8],
     slot: u64,
     start: Address,
     length: u64,

@@ -11,7 +11,7 @@ use Rattle.model.specs.Forms.{Request}
 use Rattle.model.specs.Calls.{badRange}
 use Rattle.laws.proofs.Choices.{split}
 use Rattle.theory.proofs.Ranges.{good-range}
-use Rattle.table.proofs.Frames.{bounds}
+use Rattle.laws.proofs.Frames.{bounds}
 
 -- end - start < size, where start is no more than end, says end < start + size
 pub no-wrap : (e s n : ℕ) → s ≤ e → ltb (e - s) n ≡ ltb e (s + n)

@@ -3,6 +3,7 @@ use mathlib.Core.Path.{_≡_}
 use mathlib.Core.Bool.{Bool, true, false}
 use Prim.Native.Nat.{ℕ, _+_, _-_, _*_, _≤_, _<_, _^_}
 use Rattle.model.specs.Forms as model
+use Rattle.table.specs.Board.{FIELDS}
 use Rattle.range.specs.declared.Request.{Request}
 use Rattle.range.specs.declared.Place.{Place}
 use Rattle.range.specs.declared.Place.the-variants.{Inside, Outside, Across}
@@ -26,15 +27,15 @@ abbrev pub Meets : model.Request → ℕ → ℕ → Bool → Type 0
 Meets q s n true = ((k : ℕ) → s ≤ k → k < s + n → model.inRange q k ≡ false) → ⊥
 Meets q s n false = Unit {0}
 
--- r of the 16 numbers from s lie below end
-pub record Cut (end s r : ℕ) : Type 0 where
-  pub few : r ≤ 16
+-- r of the n numbers from s lie below end
+pub record Cut (end s n r : ℕ) : Type 0 where
+  pub few : r ≤ n
   pub below : r ≤ end - s
-  pub past : r < 16 → end ≤ s + r
+  pub past : r < n → end ≤ s + r
 
 -- no page of block b lies in the range below its L1 entry n; and none from that entry on
 abbrev pub Below : model.Request → ℕ → ℕ → Type 0
-Below q b n = (k : ℕ) → k < b * 8192 + n * 16 → b * 8192 ≤ k → model.inRange q k ≡ false
+Below q b n = (k : ℕ) → k < b * 8192 + n * FIELDS → b * 8192 ≤ k → model.inRange q k ≡ false
 
 abbrev pub Past : model.Request → ℕ → ℕ → Type 0
-Past q b n = (k : ℕ) → b * 8192 + n * 16 ≤ k → k < b * 8192 + 8192 → model.inRange q k ≡ false
+Past q b n = (k : ℕ) → b * 8192 + n * FIELDS ≤ k → k < b * 8192 + 8192 → model.inRange q k ≡ false

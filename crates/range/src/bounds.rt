@@ -1,13 +1,14 @@
 // Whether an edit may have its range: the two tests that document 01 makes of it.
 use crate::Request;
-use table::Frame;
+use types::Frame;
+use table::board::PAGE_WORDS;
 use table::lent::pow2;
 ghost use mathlib.Core.Path.{_≡_};
 ghost use mathlib.Core.Bool.{true, false, not, _&&_};
 ghost use lib.Dec.{eqb};
 ghost use Rattle.model.specs.Frame.{boundsOk};
 ghost use Rattle.model.specs.Calls.{badRange, meetsLent};
-ghost use Rattle.table.specs.Views.{frameOver};
+ghost use Rattle.table.specs.Board.{frameOver};
 ghost use Rattle.range.specs.Kinds.{requestOf};
 
 // "Length 0, start or length not a multiple of 4,096, or start + length (no wrap) above 2^PAW."
@@ -39,7 +40,7 @@ pub fn on_lent_pages(f: Frame, n: usize, q: Request) -> bool
     ensures { λ r. ⌜ r ≡ (not (eqb (q .permission) 0) && meetsLent (frameOver f n) (requestOf q)) ⌝ }
 {
     let start = q.start.0;
-    let pages = (n / 512) as u64;
+    let pages = (n / PAGE_WORDS) as u64;
     let first = f.first.0;
     if q.permission == 0 {
         return false;

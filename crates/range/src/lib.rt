@@ -2,7 +2,7 @@
 pub mod bounds;
 pub mod pages;
 
-use table::Address;
+use types::Address;
 
 // What an edit asks. The permission is its two bits, as an entry holds them.
 pub struct Request {

@@ -1,8 +1,16 @@
 // Where pages lie, seen from the range of an edit.
 use crate::Place;
 use crate::Request;
+use table::board::FIELDS;
+use table::board::PAGE_WORDS;
+ghost use Rattle.table.specs.Board.{WORDS};
 ghost use Prim.Native.Nat.{_+_, _≤_, _<_, _^_};
 ghost use Rattle.range.specs.Kinds.{requestOf, Fair, Lies, Meets, Cut, Below, Past};
+
+// The bytes that an L1 entry speaks for.
+const ENTRY_BYTES: u64 = FIELDS * 4096;
+
+const ENTRY_LAST: u64 = FIELDS * 4096 - 1;
 
 // Where the n pages from page s lie.
 pub fn lies(q: Request, s: u64, n: u64) -> Place
@@ -48,16 +56,16 @@ pub fn meets(q: Request, s: u64, n: u64) -> bool
     true
 }
 
-// How many of the 16 numbers from s lie below end.
-pub fn cut(end: u64, s: u64) -> u64
-    requires { ⌜ s + 16 ≤ 2 ^ 22 ⌝ }
-    ensures { λ r. ⌜ Cut end s r ⌝ }
+// How many of the n numbers from s lie below end.
+pub fn cut(end: u64, s: u64, n: u64) -> u64
+    requires { ⌜ s + n ≤ 2 ^ 22 ⌝ }
+    ensures { λ r. ⌜ Cut end s n r ⌝ }
 {
     if end <= s {
         return 0;
     }
-    if s + 16 <= end {
-        return 16;
+    if s + n <= end {
+        return n;
     }
     end - s
 }
@@ -65,15 +73,15 @@ pub fn cut(end: u64, s: u64) -> u64
 // The first L1 entry of block b that the range can meet: no page of an entry below it lies in the range.
 pub fn first_entry(q: Request, b: u64) -> u64
     requires { ⌜ (b < 512) × Fair q ⌝ }
-    ensures { λ r. ⌜ (r ≤ 512) × Below (requestOf q) b r ⌝ }
+    ensures { λ r. ⌜ (r ≤ WORDS) × Below (requestOf q) b r ⌝ }
 {
-    let low = q.start.0 / 65536;
-    let base = b * 512;
+    let low = q.start.0 / ENTRY_BYTES;
+    let base = b * PAGE_WORDS as u64;
     if low <= base {
         return 0;
     }
-    if base + 512 <= low {
-        return 512;
+    if base + PAGE_WORDS as u64 <= low {
+        return PAGE_WORDS as u64;
     }
     low - base
 }
@@ -81,15 +89,15 @@ pub fn first_entry(q: Request, b: u64) -> u64
 // The L1 entry of block b from which on no page lies in the range.
 pub fn past_entry(q: Request, b: u64) -> u64
     requires { ⌜ (b < 512) × Fair q ⌝ }
-    ensures { λ r. ⌜ (r ≤ 512) × Past (requestOf q) b r ⌝ }
+    ensures { λ r. ⌜ (r ≤ WORDS) × Past (requestOf q) b r ⌝ }
 {
-    let high = (q.start.0 + q.size + 65535) / 65536;
-    let base = b * 512;
+    let high = (q.start.0 + q.size + ENTRY_LAST) / ENTRY_BYTES;
+    let base = b * PAGE_WORDS as u64;
     if high <= base {
         return 0;
     }
-    if base + 512 <= high {
-        return 512;
+    if base + PAGE_WORDS as u64 <= high {
+        return PAGE_WORDS as u64;
     }
     high - base
 }

@@ -5,17 +5,16 @@ use mathlib.Core.List.{List, headD}
 use Prim.Native.Nat.{ℕ}
 use lib.Dec.{eqb}
 use lib.ListN.{length, set}
-use Rattle.model.specs.Layout.{rv64}
 use Rattle.model.specs.Register.{sdidOf, registerOf}
 use Rattle.model.specs.Frame.{frameOk, indexOf}
 use Rattle.model.specs.Frame as frame
 use Rattle.model.specs.Sound.{Slot, register, emptySlot, roots, sdids, sound, freePages}
 use Rattle.model.specs.Fence.{noFence, domainFence}
 use Rattle.model.specs.Calls.{opened, closed, firstMet, slotAt, refuse, openRefusal, openAt, openSlot, closeRefusal, closeSlot}
-use Rattle.table.specs.declared.Frame.{Frame}
-use Rattle.table.specs.Views.{frameOf}
+use Rattle.types.specs.declared.Frame.{Frame}
 use Rattle.slots.specs.Zeroed.{zeroed}
 use Rattle.slots.specs.Named.{notOpen, notEmpty, badSdid}
+use Rattle.table.specs.Board.{board, frameOf}
 
 module _ (f : Frame) (m : List ℕ) (slots : List Slot) (s : ℕ) where
   abbrev F : frame.Frame
@@ -26,7 +25,7 @@ module _ (f : Frame) (m : List ℕ) (slots : List Slot) (s : ℕ) where
   module _ (sdid : ℕ) where
     pub opened-at : (root : ℕ)
         → openAt F m slots root s sdid
-        ≡ record { reply = opened; memory = zeroed m (indexOf F root 0); slots = set slots s (registerOf rv64 sdid root); fence = noFence }
+        ≡ record { reply = opened; memory = zeroed m (indexOf F root 0); slots = set slots s (registerOf board sdid root); fence = noFence }
     unfolding openAt zeroed
     opened-at root = refl
 

@@ -10,20 +10,20 @@ use lib.ListN.{length, getD, drop, drop-of-length-le}
 use lib.Seq.{drop-cons}
 use borrow.Author.Tests.{ltb-true, ltb-false}
 use Rattle.model.specs.Numbers.{if_then_else_, member}
-use Rattle.model.specs.Layout.{rv64}
 use Rattle.model.specs.Register.{sdidOf}
 use Rattle.model.specs.Sound.{Slot, register, isOpen, openRegisters}
 use Rattle.laws.proofs.Lists.{member-step}
 use Rattle.slots.specs.Named.{holds, openSdids}
+use Rattle.table.specs.Board.{board}
 
 module _ (sdid : ℕ) where
   held-step : (s : Slot) (ss : List Slot) → member sdid (openSdids (s ∷ ss)) ≡ (holds s sdid || member sdid (openSdids ss))
   unfolding openRegisters
   held-step s ss = go (isOpen s)
     where
-      go : (b : Bool) → member sdid (map (sdidOf rv64) (if b then register s ∷ openRegisters ss else openRegisters ss))
-          ≡ ((b && eqb sdid (sdidOf rv64 (register s))) || member sdid (openSdids ss))
-      go true = member-step sdid (sdidOf rv64 (register s)) (openSdids ss)
+      go : (b : Bool) → member sdid (map (sdidOf board) (if b then register s ∷ openRegisters ss else openRegisters ss))
+          ≡ ((b && eqb sdid (sdidOf board (register s))) || member sdid (openSdids ss))
+      go true = member-step sdid (sdidOf board (register s)) (openSdids ss)
       go false = refl
 
   module _ (slots : List Slot) (i : ℕ) (h : i < length slots) where

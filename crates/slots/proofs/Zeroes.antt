@@ -6,22 +6,23 @@ use native.Mathlib.Omega.{arith}
 use lib.ListN.{set, replicate}
 use lib.Seq.{sets}
 use Rattle.slots.specs.Zeroed.{zeroed}
+use Rattle.table.specs.Board.{WORDS}
 
 -- the words from word i of the page on
 unfoldable pub left : List ℕ → ℕ → ℕ → List ℕ
-left m at i = sets m (at + i) (replicate (512 - i) 0)
+left m at i = sets m (at + i) (replicate (WORDS - i) 0)
 
 pub left-all : (m : List ℕ) (at : ℕ) → zeroed m at ≡ left m at 0
 unfolding zeroed left
-left-all m at = let e : at ≡ at + 0 = omega arith in ap (λ (k : ℕ). sets m k (replicate 512 0)) e
+left-all m at = let e : at ≡ at + 0 = omega arith in ap (λ (k : ℕ). sets m k (replicate WORDS 0)) e
 
-pub left-next : (m : List ℕ) (at i : ℕ) → i < 512 → left m at i ≡ left (set m (at + i) 0) at (i + 1)
+pub left-next : (m : List ℕ) (at i : ℕ) → i < WORDS → left m at i ≡ left (set m (at + i) 0) at (i + 1)
 unfolding left
 left-next m at i h =
-    let e : 512 - i ≡ suc (512 - (i + 1)) = omega arith in
+    let e : WORDS - i ≡ suc (WORDS - (i + 1)) = omega arith in
     let z : suc (at + i) ≡ at + (i + 1) = omega arith in
-    ap (λ (n : ℕ). sets m (at + i) (replicate n 0)) e ∙ ap (λ (k : ℕ). sets (set m (at + i) 0) k (replicate (512 - (i + 1)) 0)) z
+    ap (λ (n : ℕ). sets m (at + i) (replicate n 0)) e ∙ ap (λ (k : ℕ). sets (set m (at + i) 0) k (replicate (WORDS - (i + 1)) 0)) z
 
-pub left-none : (m : List ℕ) (at i : ℕ) → 512 ≤ i → left m at i ≡ m
+pub left-none : (m : List ℕ) (at i : ℕ) → WORDS ≤ i → left m at i ≡ m
 unfolding left
-left-none m at i h = let e : 512 - i ≡ 0 = omega arith in ap (λ (n : ℕ). sets m (at + i) (replicate n 0)) e
+left-none m at i h = let e : WORDS - i ≡ 0 = omega arith in ap (λ (n : ℕ). sets m (at + i) (replicate n 0)) e

@@ -4,10 +4,11 @@ use mathlib.Core.List.{List, map}
 use Prim.Native.Nat.{ℕ}
 use lib.Dec.{eqb, ltb}
 use Rattle.model.specs.Numbers.{member}
-use Rattle.model.specs.Layout.{rv64, slotCount, maxSdid}
+use Rattle.model.specs.Layout.{slotCount, maxSdid}
 use Rattle.model.specs.Register.{sdidOf}
 use Rattle.model.specs.Sound.{Slot, register, isOpen, openRegisters}
 use Rattle.model.specs.Calls.{slotAt}
+use Rattle.table.specs.Board.{board}
 
 -- 4: "slot above 7; empty for close or edit; in use for open"
 abbrev pub notOpen : List Slot → ℕ → Bool
@@ -18,10 +19,10 @@ notEmpty slots s = not (ltb s slotCount) || isOpen (slotAt slots s)
 
 -- a slot is open with this SDID
 abbrev pub holds : Slot → ℕ → Bool
-holds slot sdid = isOpen slot && eqb sdid (sdidOf rv64 (register slot))
+holds slot sdid = isOpen slot && eqb sdid (sdidOf board (register slot))
 
 abbrev pub openSdids : List Slot → List ℕ
-openSdids slots = map (sdidOf rv64) (openRegisters slots)
+openSdids slots = map (sdidOf board) (openRegisters slots)
 
 -- 8: "SDID above 63 or held by another open slot"
 abbrev pub badSdid : List Slot → ℕ → Bool

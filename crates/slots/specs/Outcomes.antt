@@ -2,9 +2,9 @@
 use mathlib.Core.List.{List}
 use Prim.Native.Nat.{ℕ}
 use Rattle.model.specs.Calls as calls
-use Rattle.table.specs.declared.Refusal.{Refusal}
-use Rattle.table.specs.declared.Fence.the-variants.{Nothing}
-use Rattle.table.specs.Views.{refusalNumber, fenceOf}
+use Rattle.types.specs.declared.Refusal.{Refusal}
+use Rattle.types.specs.declared.Fence.the-variants.{Nothing}
+use Rattle.types.specs.Views.{refusalNumber, fenceOf}
 use Rattle.slots.specs.declared.Reply.{Reply}
 use Rattle.slots.specs.declared.Reply.the-variants.{Refused, Opened, Closed, Edited}
 use Rattle.slots.specs.declared.Outcome.{Outcome}

@@ -9,20 +9,21 @@ use crate::named::not_open;
 use crate::page::zero_page;
 use sound::check;
 use sound::pick::free_pages;
-use table::Fence;
-use table::Frame;
-use table::PageNumber;
-use table::Refusal;
-use table::Sdid;
+use types::Fence;
+use types::Frame;
+use types::PageNumber;
+use types::Refusal;
+use types::Sdid;
 use table::lent;
 use table::register;
+use table::board::Word;
 ghost use mathlib.Core.Path.{_≡_};
 ghost use mathlib.Core.Bool.{true};
 ghost use Prim.Native.Nat.{_<_};
 ghost use Rattle.model.specs.Frame as frame;
 ghost use Rattle.model.specs.Calls as calls;
-ghost use Rattle.table.specs.Views.{frameOf};
 ghost use Rattle.slots.specs.Outcomes.{outcomeOf, refusedWith};
+ghost use Rattle.table.specs.Board.{frameOf};
 
 pub enum Reply {
     Refused(Refusal),
@@ -35,11 +36,11 @@ pub enum Reply {
 // What a call leaves, beside the lent memory.
 pub struct Outcome {
     pub reply: Reply,
-    pub slots: [u64; 8],
+    pub slots: [Word; 8],
     pub fence: Fence,
 }
 
-pub fn refused(why: Refusal, slots: [u64; 8]) -> Outcome
+pub fn refused(why: Refusal, slots: [Word; 8]) -> Outcome
     ensures { λ r. ⌜ r ≡ refusedWith why slots ⌝ }
 {
     Outcome {
@@ -52,8 +53,8 @@ pub fn refused(why: Refusal, slots: [u64; 8]) -> Outcome
 // The change of an open that no refusal fits: the page is zeroed before the slot is set.
 fn open_at(
     f: Frame,
-    words: &mut [u64],
-    slots: [u64; 8],
+    words: &mut [Word],
+    slots: [Word; 8],
     slot: u64,
     sdid: Sdid,
     root: PageNumber,
@@ -72,7 +73,7 @@ fn open_at(
 }
 
 // "Opening an empty slot with an SDID takes the lowest free page, zeroes it and sets the register." Refusals 1, 3, 4, 8, 7, in this order.
-pub fn open(f: Frame, words: &mut [u64], slots: [u64; 8], slot: u64, sdid: Sdid) -> Outcome
+pub fn open(f: Frame, words: &mut [Word], slots: [Word; 8], slot: u64, sdid: Sdid) -> Outcome
     ensures { λ r. ⌜ outcomeOf r (now (words .exit)) ≡ calls.openSlot (frameOf f (now (words .entry))) (now (words .entry)) slots slot (sdid .0) ⌝ }
 {
     if !lent::frame_ok(f, words) {
@@ -96,7 +97,7 @@ pub fn open(f: Frame, words: &mut [u64], slots: [u64; 8], slot: u64, sdid: Sdid)
 }
 
 // "Closing empties the slot, writes no byte and asks for a domain fence." Refusals 1, 3, 4, in this order.
-pub fn close(f: Frame, words: &[u64], slots: [u64; 8], slot: u64) -> Outcome
+pub fn close(f: Frame, words: &[Word], slots: [Word; 8], slot: u64) -> Outcome
     ensures { λ r. ⌜ outcomeOf r (now (words .entry)) ≡ calls.closeSlot (frameOf f (now (words .entry))) (now (words .entry)) slots slot ⌝ }
 {
     if !lent::frame_ok(f, words) {

@@ -1,6 +1,7 @@
 // What a call asks of the slot that it names, and which SDIDs are in use.
-use table::Sdid;
+use types::Sdid;
 use table::register;
+use table::board::Word;
 ghost use mathlib.Core.Path.{_≡_};
 ghost use Rattle.model.specs.Numbers.{member};
 ghost use Rattle.slots.specs.Named as spec;
@@ -11,7 +12,7 @@ const SLOTS: u64 = 8;
 const MAX_SDID: u64 = 63;
 
 // "Slot above 7; empty for close or edit."
-pub fn not_open(slots: [u64; 8], slot: u64) -> bool
+pub fn not_open(slots: [Word; 8], slot: u64) -> bool
     ensures { λ r. ⌜ r ≡ spec.notOpen slots slot ⌝ }
 {
     if SLOTS <= slot {
@@ -22,7 +23,7 @@ pub fn not_open(slots: [u64; 8], slot: u64) -> bool
 }
 
 // "Slot above 7; .. in use for open."
-pub fn not_empty(slots: [u64; 8], slot: u64) -> bool
+pub fn not_empty(slots: [Word; 8], slot: u64) -> bool
     ensures { λ r. ⌜ r ≡ spec.notEmpty slots slot ⌝ }
 {
     if SLOTS <= slot {
@@ -33,7 +34,7 @@ pub fn not_empty(slots: [u64; 8], slot: u64) -> bool
 }
 
 // A slot is open with this SDID. SDID 0 is held like any other: what says that a slot is empty is its whole register.
-fn holds(slot: u64, sdid: Sdid) -> bool
+fn holds(slot: Word, sdid: Sdid) -> bool
     ensures { λ r. ⌜ r ≡ spec.holds slot (sdid .0) ⌝ }
 {
     if slot == 0 {
@@ -42,7 +43,7 @@ fn holds(slot: u64, sdid: Sdid) -> bool
     sdid.0 == register::sdid(slot).0
 }
 
-fn held(slots: [u64; 8], sdid: Sdid) -> bool
+fn held(slots: [Word; 8], sdid: Sdid) -> bool
     ensures { λ r. ⌜ r ≡ member (sdid .0) (spec.openSdids slots) ⌝ }
 {
     for i in 0..8usize {
@@ -54,7 +55,7 @@ fn held(slots: [u64; 8], sdid: Sdid) -> bool
 }
 
 // "SDID above 63 or held by another open slot."
-pub fn bad_sdid(slots: [u64; 8], sdid: Sdid) -> bool
+pub fn bad_sdid(slots: [Word; 8], sdid: Sdid) -> bool
     ensures { λ r. ⌜ r ≡ spec.badSdid slots (sdid .0) ⌝ }
 {
     let number = sdid.0;

@@ -1,14 +1,16 @@
 // A page of the lent memory, zeroed.
-use table::page::PAGE_WORDS;
+use table::board::PAGE_WORDS;
 use table::store::store_word;
+use table::board::Word;
 ghost use mathlib.Core.Path.{_≡_};
 ghost use Prim.Native.Nat.{_+_, _≤_};
 ghost use lib.ListN.{length};
 ghost use Rattle.slots.specs.Zeroed.{zeroed};
+ghost use Rattle.table.specs.Board.{WORDS};
 
 // The 512 words from at, one store each.
-pub fn zero_page(words: &mut [u64], at: usize)
-    requires { ⌜ at + 512 ≤ length (now words) ⌝ }
+pub fn zero_page(words: &mut [Word], at: usize)
+    requires { ⌜ at + WORDS ≤ length (now words) ⌝ }
     ensures { λ r. ⌜ now (words .exit) ≡ zeroed (now (words .entry)) at ⌝ }
 {
     for i in 0..PAGE_WORDS {

@@ -1,48 +1,37 @@
 // The whole-table check: one pass, each entry read once, with a mark for each page in use.
 pub mod pick;
 
-use table::Entry;
-use table::Frame;
-use table::PageNumber;
+use types::Entry;
+use types::Frame;
+use types::PageNumber;
+use scan::Checked;
 use table::lent;
-use table::page::PAGE_WORDS;
+use table::board::PAGE_WORDS;
+use table::board::RESERVED;
+use table::board::Word;
+use table::board::wide;
 use table::register;
+use table::store::read_word;
 use table::word;
 ghost use mathlib.Core.Path.{_≡_};
 ghost use mathlib.Core.Bool.{true, false};
 ghost use Prim.Native.Nat.{_+_, _≤_};
 ghost use lib.ListN.{length, getD, replicate};
 ghost use Rattle.model.specs.Numbers.{every};
-ghost use Rattle.model.specs.Layout.{rv64};
 ghost use Rattle.model.specs.Entry as entry;
 ghost use Rattle.model.specs.Frame.{boundsOk};
-ghost use Rattle.table.specs.Views.{frameOver, frameOf, entryOf};
-ghost use Rattle.sound.specs.Scan.{answer, scanAll, scanRun, claimOf, linkStep, entryStep, wordStep, rootStep, slotStep, registerStep, refusedCheck, checkedOf};
-
-// Whether the table is sound, and if so, a mark for each lent page that is in use.
-pub struct Checked {
-    pub sound: bool,
-    pub used: [bool; 256],
-}
-
-// How many pages are free, and the two lowest: an edit takes no more than two. Page 0, which is never lent, stands for none.
-pub struct Free {
-    pub count: u64,
-    pub first: PageNumber,
-    pub second: PageNumber,
-}
-
-// "The high two are reserved", of each of the 16 fields of an L1 entry.
-const RESERVED: u64 = 0xCCCC_CCCC_CCCC_CCCC;
+ghost use Rattle.table.specs.Board.{board, frameOver, frameOf};
+ghost use Rattle.types.specs.Views.{entryOf};
+ghost use Rattle.scan.specs.Scan.{answer, scanAll, scanRun, claimOf, linkStep, entryStep, wordStep, rootStep, slotStep, registerStep, refusedCheck, checkedOf};
 
 // "All reserved bits in it are zero": the words are gathered by `|` and tested once.
-fn clean(words: &[u64], at: usize) -> bool
-    requires { ⌜ at + 512 ≤ length (now words) ⌝ }
-    ensures { λ r. ⌜ r ≡ every (λ i. entry.clean rv64 (getD (now (words .entry)) (at + i) 0)) 512 0 ⌝ }
+fn clean(words: &[Word], at: usize) -> bool
+    requires { ⌜ at + board .words ≤ length (now words) ⌝ }
+    ensures { λ r. ⌜ r ≡ every (λ i. entry.clean board (getD (now (words .entry)) (at + i) 0)) (board .words) 0 ⌝ }
 {
     let mut all: u64 = 0;
     for i in 0..PAGE_WORDS {
-        all |= words[at + i];
+        all |= read_word(words, at + i);
     }
     all & RESERVED == 0
 }
@@ -64,7 +53,7 @@ fn claim(f: Frame, n: usize, page: PageNumber, used: &mut [bool; 256]) -> bool
 }
 
 // The page that a TYPE 4 entry names.
-fn link(f: Frame, words: &[u64], page: PageNumber, used: &mut [bool; 256]) -> bool
+fn link(f: Frame, words: &[Word], page: PageNumber, used: &mut [bool; 256]) -> bool
     requires { ⌜ boundsOk (frameOf f (now words)) ≡ true ⌝ }
     ensures { λ r. ⌜ answer r (now (used .exit)) ≡ linkStep (frameOf f (now (words .entry))) (now (words .entry)) (now (used .entry)) (page .0) ⌝ }
 {
@@ -74,7 +63,7 @@ fn link(f: Frame, words: &[u64], page: PageNumber, used: &mut [bool; 256]) -> bo
     false
 }
 
-fn entry(f: Frame, words: &[u64], e: Entry, used: &mut [bool; 256]) -> bool
+fn entry(f: Frame, words: &[Word], e: Entry, used: &mut [bool; 256]) -> bool
     requires { ⌜ boundsOk (frameOf f (now words)) ≡ true ⌝ }
     ensures { λ r. ⌜ answer r (now (used .exit)) ≡ entryStep (frameOf f (now (words .entry))) (now (words .entry)) (now (used .entry)) (entryOf e) ⌝ }
 {
@@ -87,12 +76,12 @@ fn entry(f: Frame, words: &[u64], e: Entry, used: &mut [bool; 256]) -> bool
 }
 
 // The count entries whose words start at at. The count is handed in, so that the loop is compiled against a plain number.
-fn entries(f: Frame, words: &[u64], at: usize, count: usize, used: &mut [bool; 256]) -> bool
+fn entries(f: Frame, words: &[Word], at: usize, count: usize, used: &mut [bool; 256]) -> bool
     requires { ⌜ (boundsOk (frameOf f (now words)) ≡ true) × (at + count ≤ length (now words)) ⌝ }
     ensures { λ r. ⌜ answer r (now (used .exit)) ≡ scanRun (wordStep (frameOf f (now (words .entry))) (now (words .entry)) at) (now (used .entry)) count 0 ⌝ }
 {
     for b in 0..count {
-        if !entry(f, words, word::decode(words[at + b]), used) {
+        if !entry(f, words, word::decode(read_word(words, at + b)), used) {
             return false;
         }
     }
@@ -100,7 +89,7 @@ fn entries(f: Frame, words: &[u64], at: usize, count: usize, used: &mut [bool; 2
 }
 
 // A root: the page itself, then "the first 2^(PAW-25) entries"; "the rest of the page is never read".
-fn root(f: Frame, words: &[u64], page: PageNumber, used: &mut [bool; 256]) -> bool
+fn root(f: Frame, words: &[Word], page: PageNumber, used: &mut [bool; 256]) -> bool
     requires { ⌜ boundsOk (frameOf f (now words)) ≡ true ⌝ }
     ensures { λ r. ⌜ answer r (now (used .exit)) ≡ rootStep (frameOf f (now (words .entry))) (now (words .entry)) (now (used .entry)) (page .0) ⌝ }
 {
@@ -112,7 +101,7 @@ fn root(f: Frame, words: &[u64], page: PageNumber, used: &mut [bool; 256]) -> bo
     false
 }
 
-fn slot(f: Frame, words: &[u64], register: u64, used: &mut [bool; 256]) -> bool
+fn slot(f: Frame, words: &[Word], register: Word, used: &mut [bool; 256]) -> bool
     requires { ⌜ boundsOk (frameOf f (now words)) ≡ true ⌝ }
     ensures { λ r. ⌜ answer r (now (used .exit)) ≡ slotStep (frameOf f (now (words .entry))) (now (words .entry)) (now (used .entry)) register ⌝ }
 {
@@ -122,7 +111,7 @@ fn slot(f: Frame, words: &[u64], register: u64, used: &mut [bool; 256]) -> bool
     root(f, words, register::ppn(register), used)
 }
 
-fn tables(f: Frame, words: &[u64], slots: [u64; 8], used: &mut [bool; 256]) -> bool
+fn tables(f: Frame, words: &[Word], slots: [Word; 8], used: &mut [bool; 256]) -> bool
     requires { ⌜ boundsOk (frameOf f (now words)) ≡ true ⌝ }
     ensures { λ r. ⌜ answer r (now (used .exit)) ≡ scanAll (slotStep (frameOf f (now (words .entry))) (now (words .entry))) (now (used .entry)) slots ⌝ }
 {
@@ -135,8 +124,8 @@ fn tables(f: Frame, words: &[u64], slots: [u64; 8], used: &mut [bool; 256]) -> b
 }
 
 // A slot's register; held has a mark for each SDID.
-fn register(r: u64, held: &mut [bool; 64]) -> bool
-    ensures { λ r′. ⌜ answer r′ (now (held .exit)) ≡ registerStep (now (held .entry)) r ⌝ }
+fn register(r: Word, held: &mut [bool; 64]) -> bool
+    ensures { λ r′. ⌜ answer r′ (now (held .exit)) ≡ registerStep board (now (held .entry)) r ⌝ }
 {
     if r == 0 {
         return true;
@@ -155,8 +144,8 @@ fn register(r: u64, held: &mut [bool; 64]) -> bool
     true
 }
 
-fn registers(slots: [u64; 8], held: &mut [bool; 64]) -> bool
-    ensures { λ r. ⌜ answer r (now (held .exit)) ≡ scanAll registerStep (now (held .entry)) slots ⌝ }
+fn registers(slots: [Word; 8], held: &mut [bool; 64]) -> bool
+    ensures { λ r. ⌜ answer r (now (held .exit)) ≡ scanAll (registerStep board) (now (held .entry)) slots ⌝ }
 {
     for i in 0..8usize {
         if !register(slots[i], held) {
@@ -188,7 +177,7 @@ fn unsound() -> Checked
 }
 
 // "A sound table": the registers of the open slots, then their tables.
-pub fn check(f: Frame, words: &[u64], slots: [u64; 8]) -> Checked
+pub fn check(f: Frame, words: &[Word], slots: [Word; 8]) -> Checked
     requires { ⌜ boundsOk (frameOf f (now words)) ≡ true ⌝ }
     ensures { λ r. ⌜ r ≡ checkedOf (frameOf f (now (words .entry))) (now (words .entry)) slots ⌝ }
 {

@@ -1,15 +1,15 @@
 // The free pages, from the marks alone.
-use crate::Free;
-use table::Frame;
-use table::PageNumber;
-use table::page::PAGE_WORDS;
+use scan::Free;
+use types::Frame;
+use types::PageNumber;
+use table::board::PAGE_WORDS;
 ghost use mathlib.Core.Path.{_≡_};
 ghost use mathlib.Core.Bool.{true, false};
 ghost use Prim.Native.Nat.{ℕ, _≤_, _<_};
 ghost use lib.ListN.{getD};
 ghost use Rattle.model.specs.Frame.{boundsOk};
-ghost use Rattle.table.specs.Views.{frameOver};
-ghost use Rattle.sound.specs.Free.{clearPages, listed};
+ghost use Rattle.table.specs.Board.{frameOver};
+ghost use Rattle.scan.specs.Free.{clearPages, listed};
 
 // The first of the places from `from` up to `pages` that has no mark; `pages` if each has one.
 fn next_clear(used: &[bool; 256], from: usize, pages: usize) -> usize

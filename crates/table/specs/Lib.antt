@@ -1,6 +1,6 @@
---   Views     the code's types as the model's: document 01's number for each case
+--   Board     the layout of this crate's board
 --   Bounds    the bounds that a leaf's result keeps
---   Stored    what one store does, also to a list of stores that is made in order
-pub mod Views
+--   Stored    one store of a word
+pub mod Board
 pub mod Bounds
 pub mod Stored

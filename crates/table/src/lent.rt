@@ -1,12 +1,13 @@
 // The frame: its bounds, which pages are lent, and where their words stand.
-use crate::Frame;
-use crate::PageNumber;
-use crate::page::PAGE_WORDS;
+use types::Frame;
+use types::PageNumber;
+use crate::board::PAGE_WORDS;
+use crate::board::Word;
 ghost use mathlib.Core.Path.{_≡_};
 ghost use mathlib.Core.Bool.{true};
 ghost use Prim.Native.Nat.{_+_, _<_, _≤_, _^_};
 ghost use Rattle.model.specs.Frame as frame;
-ghost use Rattle.table.specs.Views.{frameOf, frameOver};
+ghost use Rattle.table.specs.Board.{board, frameOf, frameOver};
 
 // "PAW (30 to 34), lent table memory of 2 to 256 whole pages."
 const MIN_PAW: u64 = 30;
@@ -26,7 +27,7 @@ pub fn pow2(k: u64) -> u64
 }
 
 // A frame that breaks its bounds, or memory that is not whole pages, is refused by every call.
-pub fn frame_ok(f: Frame, words: &[u64]) -> bool
+pub fn frame_ok(f: Frame, words: &[Word]) -> bool
     ensures { λ r. ⌜ r ≡ frame.frameOk (frameOf f (now (words .entry))) (now (words .entry)) ⌝ }
 {
     let paw = f.paw;
@@ -82,10 +83,10 @@ pub fn is_lent(f: Frame, n: usize, page: PageNumber) -> bool
     at - first < pages
 }
 
-// Where the words of a lent page start: all 512 are inside.
+// Where the words of a lent page start: all are inside.
 pub fn page_start(f: Frame, n: usize, page: PageNumber) -> usize
     requires { ⌜ frame.lent (frameOver f n) (page .0) ≡ true ⌝ }
-    ensures { λ r. ⌜ (r ≡ frame.indexOf (frameOver f n) (page .0) 0) × (r + 512 ≤ n) ⌝ }
+    ensures { λ r. ⌜ (r ≡ frame.indexOf (frameOver f n) (page .0) 0) × (r + board .words ≤ n) ⌝ }
 {
     (page.0 - f.first.0) as usize * PAGE_WORDS
 }

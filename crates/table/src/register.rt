@@ -1,60 +1,60 @@
-// The register mmpt: PPN bits 43:0, WPRI 53:44, SDID 59:54, MODE 63:60.
-use crate::PageNumber;
-use crate::Sdid;
+// The register mmpt: PPN, WPRI, SDID, MODE.
+use types::PageNumber;
+use types::Sdid;
+use crate::board::MODE;
+use crate::board::SDID;
+use crate::board::WPRI;
+use crate::board::WPRI_VALUES;
+use crate::board::Word;
+use crate::board::narrow;
+use crate::board::wide;
 ghost use mathlib.Core.Path.{_≡_};
 ghost use Prim.Native.Nat.{_<_, _^_};
-ghost use Rattle.model.specs.Layout.{rv64};
+ghost use Rattle.table.specs.Board.{board};
 ghost use Rattle.model.specs.Register.{ppnOf, wpriOf, sdidOf, modeOf, registerOf, registerOk, isBare};
 
-// Where WPRI, SDID and MODE begin: bits 44, 54 and 60. Below lies PPN.
-const WPRI: u64 = 0x1000_0000_0000;
-
-const SDID: u64 = 0x40_0000_0000_0000;
-
-const MODE: u64 = 0x1000_0000_0000_0000;
-
-pub fn ppn(register: u64) -> PageNumber
-    ensures { λ r. ⌜ (r .0 ≡ ppnOf rv64 register) × (r .0 < 2 ^ 44) ⌝ }
+pub fn ppn(register: Word) -> PageNumber
+    ensures { λ r. ⌜ (r .0 ≡ ppnOf board register) × (r .0 < 2 ^ board .infoBits) ⌝ }
 {
-    PageNumber(register % WPRI)
+    PageNumber(wide(register) % WPRI)
 }
 
-pub fn wpri(register: u64) -> u64
-    ensures { λ r. ⌜ (r ≡ wpriOf rv64 register) × (r < 1024) ⌝ }
+pub fn wpri(register: Word) -> u64
+    ensures { λ r. ⌜ (r ≡ wpriOf board register) × (r < 2 ^ board .wpriBits) ⌝ }
 {
-    register / WPRI % 1024
+    wide(register) / WPRI % WPRI_VALUES
 }
 
-pub fn sdid(register: u64) -> Sdid
-    ensures { λ r. ⌜ (r .0 ≡ sdidOf rv64 register) × (r .0 < 64) ⌝ }
+pub fn sdid(register: Word) -> Sdid
+    ensures { λ r. ⌜ (r .0 ≡ sdidOf board register) × (r .0 < 64) ⌝ }
 {
-    Sdid(register / SDID % 64)
+    Sdid(wide(register) / SDID % 64)
 }
 
-pub fn mode(register: u64) -> u64
-    ensures { λ r. ⌜ (r ≡ modeOf rv64 register) × (r < 16) ⌝ }
+pub fn mode(register: Word) -> u64
+    ensures { λ r. ⌜ (r ≡ modeOf board register) × (r < 16) ⌝ }
 {
-    register / MODE
+    wide(register) / MODE
 }
 
 // "MODE 1, that SDID and that page, WPRI zero."
-pub fn new(sdid: Sdid, root: PageNumber) -> u64
-    requires { ⌜ (sdid .0 < 64) × (root .0 < 2 ^ 44) ⌝ }
-    ensures { λ r. ⌜ r ≡ registerOf rv64 (sdid .0) (root .0) ⌝ }
+pub fn new(sdid: Sdid, root: PageNumber) -> Word
+    requires { ⌜ (sdid .0 < 64) × (root .0 < 2 ^ board .infoBits) ⌝ }
+    ensures { λ r. ⌜ r ≡ registerOf board (sdid .0) (root .0) ⌝ }
 {
-    MODE + sdid.0 * SDID + root.0
+    narrow(MODE + sdid.0 * SDID + root.0)
 }
 
 // "MODE 0 is Bare."
-pub fn is_bare(register: u64) -> bool
-    ensures { λ r. ⌜ r ≡ isBare rv64 register ⌝ }
+pub fn is_bare(register: Word) -> bool
+    ensures { λ r. ⌜ r ≡ isBare board register ⌝ }
 {
     mode(register) == 0
 }
 
 // "Others are refused in the base. Bare with PPN or SDID not zero is refused."
-pub fn register_ok(register: u64) -> bool
-    ensures { λ r. ⌜ r ≡ registerOk rv64 register ⌝ }
+pub fn register_ok(register: Word) -> bool
+    ensures { λ r. ⌜ r ≡ registerOk board register ⌝ }
 {
     let root = ppn(register).0;
     let domain = sdid(register).0;

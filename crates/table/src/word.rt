@@ -1,25 +1,22 @@
-// Entries of the tables. L2: INFO 43:0, TYPE 46:44, ZERO 63:47. L1: 16 fields of four bits.
-use crate::Entry;
-use crate::Found;
-use crate::PageNumber;
-use crate::rights::permission_of;
+// Entries of the tables. L2: INFO, TYPE, ZERO. L1: fields of four bits.
+use types::Entry;
+use types::Found;
+use types::PageNumber;
+use crate::board::PIECE_INFO;
+use crate::board::PIECE_TYPE;
+use crate::board::TYPE;
+use types::rights::permission_of;
 ghost use mathlib.Core.Path.{_≡_};
 ghost use Prim.Native.Nat.{_<_};
 ghost use Rattle.model.specs.Numbers.{digit};
-ghost use Rattle.model.specs.Layout.{rv64};
+ghost use Rattle.table.specs.Board.{board};
 ghost use Rattle.model.specs.Entry as entry;
-ghost use Rattle.table.specs.Views.{entryOf, foundOf};
+ghost use Rattle.types.specs.Views.{entryOf, foundOf};
 ghost use Rattle.table.specs.Bounds.{Small};
 
-// Where TYPE begins: bit 44. Below lies INFO, of which TYPE 6 uses bits 31:0.
-const TYPE: u64 = 0x1000_0000_0000;
-
-const PIECES: u64 = 0x1_0000_0000;
-
-// What an L2 entry says. TYPE is taken with ZERO above it: a number above 7 is no type. The page number of an L1 page is all 44 bits of
-// INFO.
+// What an L2 entry says. TYPE is taken with ZERO above it: a number above 7 is no type. The page number of an L1 page is all of INFO.
 pub fn decode(word: u64) -> Entry
-    ensures { λ r. ⌜ (entryOf r ≡ entry.decode rv64 word) × Small (entryOf r) ⌝ }
+    ensures { λ r. ⌜ (entryOf r ≡ entry.decode board word) × Small (entryOf r) ⌝ }
 {
     let info = word % TYPE;
     let kind = word / TYPE;
@@ -32,17 +29,17 @@ pub fn decode(word: u64) -> Entry
     if kind == 4 {
         return Entry::Table(PageNumber(info));
     }
-    if kind == 6 {
-        if info < PIECES {
+    if kind == PIECE_TYPE {
+        if info < PIECE_INFO {
             return Entry::Pieces(info);
         }
     }
     Entry::Invalid
 }
 
-// The permission of 2 MiB piece i in a TYPE 6 entry's INFO.
+// The permission of piece i in the INFO of an entry by pieces.
 pub fn piece(info: u64, i: u64) -> u64
-    requires { ⌜ i < 16 ⌝ }
+    requires { ⌜ i < board .pieces ⌝ }
     ensures { λ r. ⌜ (r ≡ digit 4 info i) × (r < 4) ⌝ }
 {
     (info >> (2 * i)) % 4
@@ -50,7 +47,7 @@ pub fn piece(info: u64, i: u64) -> u64
 
 // Field i of an L1 entry.
 pub fn field(word: u64, i: u64) -> u64
-    requires { ⌜ i < 16 ⌝ }
+    requires { ⌜ i < board .fields ⌝ }
     ensures { λ r. ⌜ (r ≡ digit 16 word i) × (r < 16) ⌝ }
 {
     (word >> (4 * i)) % 16
@@ -58,8 +55,8 @@ pub fn field(word: u64, i: u64) -> u64
 
 // What field i of an L1 entry says: its permission, or a fault where one of its own reserved bits is set.
 pub fn field_found(word: u64, i: u64) -> Found
-    requires { ⌜ i < 16 ⌝ }
-    ensures { λ r. ⌜ foundOf r ≡ entry.fieldOf rv64 word i ⌝ }
+    requires { ⌜ i < board .fields ⌝ }
+    ensures { λ r. ⌜ foundOf r ≡ entry.fieldOf board word i ⌝ }
 {
     let bits = field(word, i);
     if bits < 4 {

@@ -3,7 +3,7 @@
 -- `WholeCall` (one call), `Cuts` (calls that are cut anywhere), `CutsFree` (the free pages), `Counts` (how many stores).
 use mathlib.Core.Path.{_≡_, refl, sym, ap, _∙_, subst}
 use mathlib.Core.List.{List, [], _∷_, _++_}
-use Prim.Native.Nat.{ℕ, _≤_}
+use Prim.Native.Nat.{ℕ, _≤_, suc, _+_, _-_, _*_, _^_}
 use native.Mathlib.Omega.{arith}
 use lib.ListN.{length}
 use lib.Seq.{take-all}
@@ -15,7 +15,7 @@ use Rattle.model.specs.Stores.{Store, apply}
 use Rattle.model.specs.Calls.{editRefusal, editSlot, editWith, finished, made, rootOf, storeList, storeListWith}
 use Rattle.model.specs.Demands.{Accepted, Demand2, Demand3, Done, Typed, calls, stopped, whole}
 use Rattle.theory.proofs.Entries.{Lawful, rv32-lawful, rv64-lawful}
-use Rattle.theory.proofs.Frames.{blocks-words}
+use Rattle.theory.proofs.Frames.{blocks-words, blocks-few}
 use Rattle.theory.proofs.Accepts.{Accept, from-accept, range-of, root-in, to-accept}
 use Rattle.theory.proofs.WholeCall.{Edit, Rel, accept-kept, ok-of}
 use Rattle.theory.proofs.Cuts.{calls-kept, same-of, steady-of, unstarted}
@@ -65,6 +65,13 @@ module _ (F : Frame) (lawful : Lawful (F .layout)) (slots : List Slot) (q : Requ
   demand2 m limit typed accepted all =
       let E : Edit = record { F = F; lawful = lawful; slots = slots; q = q; low = typed .permission } in
       subst (Done F slots q m) (sym (edit-whole m limit accepted all)) (whole-done E m (to-accept F slots q m accepted))
+
+  -- no call takes more stores than this, whatever the cuts before it
+  pub most-stores : (m : List ℕ) → Typed F q m → Accepted F slots q m → (ks : List ℕ)
+      → length (storeList F (calls F slots q ks m) slots q) ≤ 2 ^ (F .layout .maxPaw - 25) - 2 + 2 * suc (F .layout .words)
+  most-stores m typed accepted ks =
+      let E : Edit = record { F = F; lawful = lawful; slots = slots; q = q; low = typed .permission } in
+      omega (arith, demand3 m typed accepted ks .fewStores, blocks-few F (ok-of E m (to-accept F slots q m accepted)))
 
 -- ---- the two boards
 

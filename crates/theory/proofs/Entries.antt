@@ -35,7 +35,7 @@ numbersFit L =
     && leb (4 ^ L .pieces) (2 ^ L .infoBits) && leb (2 ^ (L .maxPaw - 25)) (L .words) && leb (2 ^ (L .maxPaw - 12)) (2 ^ L .infoBits)
     && leb (2 ^ (L .infoBits + 3)) (16 ^ L .fields)
 
-lawful : (L : Layout) → numbersFit L ≡ true → Lawful L
+pub lawful : (L : Layout) → numbersFit L ≡ true → Lawful L
 unfolding numbersFit
 lawful L h =
     let a = and-true _ _ h in

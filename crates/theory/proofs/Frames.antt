@@ -48,6 +48,11 @@ module _ (F : Frame) (ok : Ok F) where
   abbrev L : Layout
   L = F .layout
 
+  -- no more blocks than the widest address space has
+  pub blocks-few : blocks F ≤ 2 ^ (F .layout .maxPaw - 25)
+  unfolding blocks
+  blocks-few = pow-mono (omega (arith, ok .pawHigh))
+
   pub blocks-words : blocks F ≤ F .layout .words
   unfolding blocks
   blocks-words = le-trans (pow-mono (omega (arith, ok .pawHigh))) (ok .lawful .rootFits)

@@ -8,7 +8,7 @@ use Rattle.model.specs.Walk.{entryAt, entryPage}
 use Rattle.laws.proofs.Times.{times}
 use Rattle.theory.specs.Rooted.{Good, Rooted}
 use Rattle.theory.proofs.Entries.{Small}
-use Rattle.theory.proofs.Frames.{Ok, blocks-pos, blocks-words}
+use Rattle.theory.proofs.Frames.{Ok, blocks-pos, blocks-few}
 use Rattle.theory.proofs.Tables.{Sound, link-in}
 use Rattle.theory.proofs.Finds.{entry-small}
 use Rattle.theory.proofs.Steps.{root-lent}
@@ -30,6 +30,6 @@ module _ (F : Frame) (ok : Ok F) (rs m : List ℕ) (s : Sound F rs m) where
   sound-rooted r l =
       record {
         isLent = root-lent F ok rs m s r 0 l (blocks-pos F ok);
-        few = blocks-words F ok;
+        few = blocks-few F ok;
         good = λ b u. sound-good r b l u;
       }

@@ -2,7 +2,7 @@
 use mathlib.Core.Path.{_≡_}
 use mathlib.Core.Bool.{true}
 use mathlib.Core.List.{List}
-use Prim.Native.Nat.{ℕ, _≤_, _<_}
+use Prim.Native.Nat.{ℕ, _-_, _^_, _≤_, _<_}
 use Rattle.model.specs.Entry.{Entry, flat, pieces, table, invalid, clean}
 use Rattle.model.specs.Frame.{Frame, lent, blocks, wordAt}
 use Rattle.model.specs.Walk.{entryAt}
@@ -14,8 +14,8 @@ Good F m (pieces i) = Unit {0}
 Good F m (table t) = (lent F t ≡ true) × ((i : ℕ) → i < F .layout .words → clean (F .layout) (wordAt F m t i) ≡ true)
 Good F m invalid = Unit {0}
 
--- of a root: it is lent, its page holds an entry for each block, and each of those is good
+-- of a root: it is lent, its blocks are no more than the widest address space has, and the entry of each is good
 pub record Rooted (F : Frame) (m : List ℕ) (root : ℕ) : Type 0 where
   pub isLent : lent F root ≡ true
-  pub few : blocks F ≤ F .layout .words
+  pub few : blocks F ≤ 2 ^ (F .layout .maxPaw - 25)
   pub good : (b : ℕ) → b < blocks F → Good F m (entryAt F m root b)

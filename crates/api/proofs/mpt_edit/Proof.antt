@@ -3,7 +3,7 @@ use mathlib.Core.Path.{_≡_, refl, sym, ap, _∙_}
 use borrow.Author.Needs.{needs}
 use Rattle.api.specs.Codes.{known, permissionAt, grantOf, doneWord}
 use Rattle.model.specs.Calls.{Outcome}
-use Rattle.table.specs.Views.{permissionNumber}
+use Rattle.types.specs.Views.{permissionNumber}
 use Rattle.api.proofs.mpt_edit.Statement.{statement}
 use Rattle.api.proofs.mpt_edit.Tie as tie
 

@@ -2,7 +2,7 @@
 use mathlib.Core.Path.{_≡_, refl, sym, ap, _∙_}
 use borrow.Author.Needs.{needs}
 use Rattle.api.specs.Codes.{known, privilegeAt, kindAt, whoOf, whatOf, answerWord}
-use Rattle.table.specs.Views.{privilegeOf, kindOf}
+use Rattle.types.specs.Views.{privilegeOf, kindOf}
 use Rattle.api.proofs.Faults.{fault-of-lookup}
 use Rattle.api.proofs.mpt_lookup.Statement.{statement}
 use Rattle.api.proofs.mpt_lookup.Tie as tie

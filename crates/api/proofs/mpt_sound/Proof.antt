@@ -10,24 +10,25 @@ use borrow.Author.Tests.{not-true, not-false}
 use Rattle.api.specs.Codes.{soundWord, frameIn}
 use Rattle.model.specs.Frame.{frameOk}
 use Rattle.model.specs.Sound.{sound}
-use Rattle.sound.proofs.Laws.{says-sound}
-use Rattle.sound.specs.declared.Checked.{Checked}
-use Rattle.table.proofs.Frames.{framed}
+use Rattle.scan.proofs.Laws.{says-sound}
+use Rattle.scan.specs.declared.Checked.{Checked}
+use Rattle.laws.proofs.Frames.{framed}
 use Rattle.api.proofs.mpt_sound.Statement.{statement}
 use Rattle.api.proofs.mpt_sound.Tie as tie
+use Rattle.table.specs.Board.{WORDS}
 
 frame-ok-requires : tie.Need-frame-ok-requires
 frame-ok-requires c κs = search needs
 
 frame-passes : (c : tie.Else1) → let a = c .before .before .before .args in
-    frameOk (frameIn (a .paw) (a .first) (length (now (a .words)) / 512)) (now (a .words)) ≡ true
+    frameOk (frameIn (a .paw) (a .first) (length (now (a .words)) / WORDS)) (now (a .words)) ≡ true
 frame-passes c = sym (c .before .frame-ok .ensures) ∙ not-false _ (c .if1 .left)
 
 check-says : (c : tie.After-check) → let a = c .before .before .before .before .before .args in
-    c .check .result .sound ≡ sound (frameIn (a .paw) (a .first) (length (now (a .words)) / 512)) (now (a .words)) (now (a .slots))
+    c .check .result .sound ≡ sound (frameIn (a .paw) (a .first) (length (now (a .words)) / WORDS)) (now (a .words)) (now (a .slots))
 check-says c =
     let a = c .before .before .before .before .before .args in
-    let F = frameIn (a .paw) (a .first) (length (now (a .words)) / 512) in
+    let F = frameIn (a .paw) (a .first) (length (now (a .words)) / WORDS) in
     ap (λ (x : Checked). x .sound) (c .check .ensures) ∙ says-sound F (now (a .words)) (now (a .slots))
 
 returns : tie.Need-returns

@@ -3,18 +3,22 @@ use mathlib.Core.Path.{ap, _∙_}
 use borrow.Author.Needs.{needs}
 use Rattle.api.specs.Codes.{replyWord}
 use Rattle.slots.specs.Outcomes.{replyOf}
-use Rattle.table.specs.Views.{fenceOf}
+use Rattle.types.specs.Views.{fenceOf}
 use Rattle.api.proofs.opened_word.Statement.{statement}
 use Rattle.api.proofs.opened_word.Tie as tie
 
 slot-at-requires : tie.Need-slot-at-requires
 slot-at-requires c κs = search needs
 
+wide-requires : tie.Need-wide-requires
+wide-requires c κs = search needs
+
 reply-word-requires : tie.Need-reply-word-requires
 reply-word-requires c κs = search needs
 
 returns : tie.Need-returns
-returns c = λ m. c .reply-word .ensures ∙ ap (replyWord (replyOf (c .before .before .before .args .o .reply)) (fenceOf (c .before .before .before .args .o .fence))) (c .before .slot-at .ensures)
+returns c = λ m. let a = c .before .before .before .before .args in
+    c .reply-word .ensures ∙ ap (replyWord (replyOf (a .o .reply)) (fenceOf (a .o .fence))) (c .before .wide .ensures .0 ∙ c .before .before .slot-at .ensures)
 
 pub opened-word-spec : {M : Type 1} → statement M
-opened-word-spec = tie.close (tie.spec slot-at-requires reply-word-requires returns)
+opened-word-spec = tie.close (tie.spec slot-at-requires wide-requires reply-word-requires returns)

@@ -7,9 +7,9 @@ use borrow.Author.Needs.{needs}
 use Rattle.forms.proofs.Fields.{index-add}
 use Rattle.model.specs.Fence.{inRoot}
 use Rattle.model.specs.Frame.{blocks, indexOf}
-use Rattle.table.specs.Views.{frameOf}
 use Rattle.edit.proofs.in_root.Statement.{statement}
 use Rattle.edit.proofs.in_root.Tie as tie
+use Rattle.table.specs.Board.{frameOf}
 
 page-at-requires : tie.Need-page-at-requires
 page-at-requires c κs = search needs

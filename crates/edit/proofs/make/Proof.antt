@@ -15,9 +15,10 @@ use Rattle.edit.specs.Kinds.{wholeList, Accepted, freeList}
 use Rattle.entries.specs.Run.{whole, cut, out, run}
 use Rattle.range.specs.Kinds.{requestOf}
 use Rattle.model.specs.Stores.{Store}
-use Rattle.table.specs.Views.{frameOf, fenceOf}
+use Rattle.types.specs.Views.{fenceOf}
 use Rattle.edit.proofs.make.Statement.{statement}
 use Rattle.edit.proofs.make.Tie as tie
+use Rattle.table.specs.Board.{frameOf}
 
 all-made : (c : tie.After-struct-known) → let a = c .before .before .before .before .before .before .before .before .args in let r = c .before .before .before .before .before .stores in
     run (record { more = a .limit; last = 0 }) (wholeList (frameOf (a .f) (a .words .now)) (a .words .now) (requestOf (a .q)) (a .root .0) (freeList (a .free))) (a .words .now) ≡ whole (r .result .left) (r .last .1 .0)

@@ -1,5 +1,5 @@
 use mathlib.Core.List.{List}
-use Rattle.table.specs.declared.Frame as code
+use Rattle.types.specs.declared.Frame as code
 use Rattle.range.specs.declared.Request as code′
 use mathlib.Core.Path.{_≡_, refl, sym, ap, ap₂, _∙_, subst}
 use mathlib.Core.Bool.{Bool, true, false}
@@ -8,13 +8,12 @@ use native.Mathlib.Omega.{arith}
 use borrow.Author.Tests.{not-true, not-false}
 use lib.ListN.{length}
 use Rattle.edit.proofs.Facts.{Facts, facts}
-use Rattle.edit.proofs.Turns.{Turn, turn-start, turn-rooted, turn-room, turn-flag, turn-fresh, turn-cut, turn-next, turn-end}
+use Rattle.edit.proofs.Turns.{Turn, turn-start, turn-rooted, turn-room, turn-flag, turn-fresh, turn-ahead, turn-cut, turn-next, turn-end}
 use Rattle.edit.proofs.Going.{size}
 use Rattle.entries.proofs.Runs.{out-whole, out-cut}
 use Rattle.forms.specs.declared.Gib.{Gib}
 use Rattle.edit.specs.Kinds.{freeList}
 use Rattle.range.specs.Kinds.{requestOf, Fair}
-use Rattle.table.specs.Views.{frameOf}
 use Rattle.edit.proofs.stores.Statement.{statement}
 use Rattle.edit.proofs.stores.Tie as tie
 
@@ -71,6 +70,8 @@ next-blocks-requires c κs =
       c .before .gib-at .ensures .2,
       omega (arith, t .going .taken, t .k .few),
       turn-fresh (a .f) (a .words .now) (requestOf (a .q)) (a .root .0) (freeList (a .free)) (a .limit) _ (l .loop .words) (l .loop .b) (l .loop .gib) (l .loop .next) (l .loop .left) t (omega arith)
+          (c .before .gib-at .result) (c .before .gib-at .ensures),
+      turn-ahead (a .f) (a .words .now) (requestOf (a .q)) (a .root .0) (freeList (a .free)) (a .limit) _ (l .loop .words) (l .loop .b) (l .loop .gib) (l .loop .next) (l .loop .left) t (omega arith)
           (c .before .gib-at .result) (c .before .gib-at .ensures),
     )
 

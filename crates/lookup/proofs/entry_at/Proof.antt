@@ -1,8 +1,10 @@
 -- `lookup::entry_at` meets its contract: an entry of a lent page lies inside the lent words.
-use mathlib.Core.Path.{sym, _∙_}
+use mathlib.Core.Path.{sym, ap, _∙_}
 use borrow.Author.Needs.{needs}
+use Rattle.model.specs.Entry.{decode}
 use Rattle.model.specs.Walk.{entryAt, entryPage}
-use Rattle.table.proofs.Frames.{entry-at}
+use Rattle.laws.proofs.Frames.{entry-at}
+use Rattle.table.specs.Board.{board}
 use Rattle.lookup.proofs.entry_at.Statement.{statement}
 use Rattle.lookup.proofs.entry_at.Tie as tie
 
@@ -15,11 +17,8 @@ page-start-requires c κs = sym (c .before .is-lent .ensures) ∙ c .if1 .taken
 add-at : tie.Need-add-at
 add-at c = search needs
 
-mul-decode : tie.Need-mul-decode
-mul-decode c = search needs
-
-shared-slice-read-decode : tie.Need-shared-slice-read-decode
-shared-slice-read-decode c = search needs
+read-word-requires : tie.Need-read-word-requires
+read-word-requires c κs = search needs
 
 decode-requires : tie.Need-decode-requires
 decode-requires c κs = search needs
@@ -27,7 +26,9 @@ decode-requires c κs = search needs
 returns : tie.Need-returns
 returns c = let p = c .before .before in
     let b = p .before in (
-      c .decode .ensures .0 ∙ entry-at _ _ _ _ _ (sym (b .before .is-lent .ensures) ∙ b .if1 .taken) (p .page-start .ensures .0),
+      c .decode .ensures .0
+      ∙ ap (decode board) (c .before .read-word .ensures .0)
+      ∙ entry-at _ _ _ _ _ (sym (b .before .is-lent .ensures) ∙ b .if1 .taken) (p .page-start .ensures .0),
       c .decode .ensures .1,
     )
 
@@ -42,8 +43,7 @@ entry-at-spec =
     is-lent-requires
     page-start-requires
     add-at
-    mul-decode
-    shared-slice-read-decode
+    read-word-requires
     decode-requires
     returns
     returns-2)

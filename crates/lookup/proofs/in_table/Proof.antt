@@ -3,12 +3,11 @@ use mathlib.Core.Path.{sym, ap, ap₂, _∙_}
 use Prim.Native.Nat.{ℕ}
 use denote.Ref.{now}
 use borrow.Author.Needs.{needs}
-use Rattle.model.specs.Layout.{rv64}
 use Rattle.model.specs.Entry.{fieldOf}
 use Rattle.model.specs.Frame.{wordAt}
 use Rattle.model.specs.Walk.{found}
-use Rattle.table.specs.Views.{frameOf}
-use Rattle.table.proofs.Frames.{word-at}
+use Rattle.table.specs.Board.{board, frameOf}
+use Rattle.laws.proofs.Frames.{word-at}
 use Rattle.lookup.proofs.in_table.Statement.{statement}
 use Rattle.lookup.proofs.in_table.Tie as tie
 
@@ -24,11 +23,8 @@ pn1-requires c κs = search needs
 add-at : tie.Need-add-at
 add-at c = search needs
 
-mul-field-found : tie.Need-mul-field-found
-mul-field-found c = search needs
-
-shared-slice-read-field-found : tie.Need-shared-slice-read-field-found
-shared-slice-read-field-found c = search needs
+read-word-requires : tie.Need-read-word-requires
+read-word-requires c κs = search needs
 
 pn0-requires : tie.Need-pn0-requires
 pn0-requires c κs = search needs
@@ -39,14 +35,15 @@ field-found-requires c κs = search needs
 returns : tie.Need-returns
 unfolding found
 returns c = let z = c .before in
-    let o = z .before .before in
+    let s = z .before in
+    let o = s .before in
     let p = o .before in
     let b = p .before in
     let a = b .before .before .before .args in
     rw (sym (b .before .is-lent .ensures) ∙ b .if1 .taken)
     (c .field-found .ensures
-    ∙ ap (λ (w : ℕ). fieldOf rv64 w (z .pn0 .result)) (word-at _ _ _ _ _ (p .page-start .ensures .0))
-    ∙ ap₂ (λ (i j : ℕ). fieldOf rv64 (wordAt (frameOf (a .f) (now (a .words))) (now (a .words)) (a .table .0) i) j) (o .pn1 .ensures .0) (z .pn0 .ensures .0))
+    ∙ ap (λ (w : ℕ). fieldOf board w (z .pn0 .result)) (s .read-word .ensures .0 ∙ word-at _ _ _ _ _ (p .page-start .ensures .0))
+    ∙ ap₂ (λ (i j : ℕ). fieldOf board (wordAt (frameOf (a .f) (now (a .words))) (now (a .words)) (a .table .0) i) j) (o .pn1 .ensures .0) (z .pn0 .ensures .0))
 
 returns-2 : tie.Need-returns-2
 unfolding found
@@ -60,8 +57,7 @@ in-table-spec =
     page-start-requires
     pn1-requires
     add-at
-    mul-field-found
-    shared-slice-read-field-found
+    read-word-requires
     pn0-requires
     field-found-requires
     returns

@@ -6,7 +6,7 @@ use borrow.Author.Needs.{needs}
 use Rattle.model.specs.Numbers.{if_then_else_}
 use Rattle.model.specs.Entry.{Found, perm, faults}
 use Rattle.model.specs.Access.{Kind, Need, read, write, execute, allowed, fault, needOf, originalOf, causeOf, mayRows, columnOf, may, judge}
-use Rattle.table.specs.Views as views
+use Rattle.types.specs.Views as views
 use Rattle.lookup.specs.Granted.{grantedOf}
 use Rattle.lookup.proofs.judge.Statement.{statement}
 use Rattle.lookup.proofs.judge.Tie as tie

@@ -4,12 +4,11 @@ use mathlib.Core.Bool.{true}
 use denote.Ref.{now}
 use borrow.Author.Tests.{not-true, not-false}
 use borrow.Author.Needs.{needs}
-use Rattle.model.specs.Layout.{rv64}
 use Rattle.model.specs.Register.{registerOk}
 use Rattle.model.specs.Frame.{frameOk}
 use Rattle.model.specs.Lookup.{lookup, reads}
-use Rattle.table.specs.Views.{frameOf}
-use Rattle.table.proofs.Frames.{framed}
+use Rattle.table.specs.Board.{board, frameOf}
+use Rattle.laws.proofs.Frames.{framed}
 use Rattle.lookup.proofs.lookup.Statement.{statement}
 use Rattle.lookup.proofs.lookup.Tie as tie
 
@@ -17,7 +16,7 @@ use Rattle.lookup.proofs.lookup.Tie as tie
 frame-passes : (c : tie.Else1) → let a = c .before .before .before .before .before .args in frameOk (frameOf (a .f) (now (a .words))) (now (a .words)) ≡ true
 frame-passes c = sym (c .before .frame-ok .ensures) ∙ not-false _ (c .if1 .left)
 
-register-passes : (c : tie.Else2) → registerOk rv64 (c .before .before .before .before .before .before .before .args .register) ≡ true
+register-passes : (c : tie.Else2) → registerOk board (c .before .before .before .before .before .before .before .args .register) ≡ true
 register-passes c = sym (c .before .register-ok .ensures) ∙ not-false _ (c .if2 .left)
 
 need-of-requires : tie.Need-need-of-requires

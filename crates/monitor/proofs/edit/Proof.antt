@@ -10,16 +10,17 @@ use Rattle.model.specs.Frame.{Frame, frameOk}
 use Rattle.model.specs.Sound.{sound}
 use Rattle.model.specs.Forms.{Request}
 use Rattle.model.specs.Calls.{refuse, editSlot}
-use Rattle.table.specs.Views.{frameOf, permissionNumber}
-use Rattle.table.proofs.Frames.{framed, bounds}
-use Rattle.sound.specs.declared.Checked.{Checked}
-use Rattle.sound.specs.Free.{clearPages}
-use Rattle.sound.proofs.Laws.{says-sound, checked-free}
+use Rattle.types.specs.Views.{permissionNumber}
+use Rattle.laws.proofs.Frames.{framed, bounds}
+use Rattle.scan.specs.declared.Checked.{Checked}
+use Rattle.scan.specs.Free.{clearPages}
+use Rattle.scan.proofs.Laws.{says-sound, checked-free}
 use Rattle.slots.specs.Named.{notOpen}
 use Rattle.monitor.specs.Edits.{asked}
 use Rattle.monitor.proofs.EditRefusals.{edit-frame, edit-unsound, edit-slot}
 use Rattle.monitor.proofs.edit.Statement.{statement}
 use Rattle.monitor.proofs.edit.Tie as tie
+use Rattle.table.specs.Board.{frameOf}
 
 -- the state that the call finds, and what it is asked
 abbrev memoryOf : (s : tie.Start) → List ℕ

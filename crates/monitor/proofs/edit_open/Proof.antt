@@ -14,10 +14,9 @@ use Rattle.model.specs.Sound.{roots, freePages}
 use Rattle.model.specs.Forms.{Request}
 use Rattle.model.specs.Stores.{Store}
 use Rattle.model.specs.Calls.{slotAt, registerFor, rootOf, refuse, badRange, meetsLent, editRefusal, storeList}
-use Rattle.table.specs.Views.{frameOf}
-use Rattle.table.proofs.Frames.{framed}
-use Rattle.sound.specs.declared.Free.{Free}
-use Rattle.sound.specs.Free.{listed}
+use Rattle.laws.proofs.Frames.{framed}
+use Rattle.scan.specs.declared.Free.{Free}
+use Rattle.scan.specs.Free.{listed}
 use Rattle.range.specs.Kinds.{requestOf}
 use Rattle.forms.specs.Kinds.{wholePages}
 use Rattle.edit.specs.Kinds.{Accepted, freeList}
@@ -31,6 +30,7 @@ use Rattle.slots.proofs.Sdids.{slot-low}
 use Rattle.monitor.proofs.SlotRoots.{rooted-slot}
 use Rattle.monitor.proofs.edit_open.Statement.{statement}
 use Rattle.monitor.proofs.edit_open.Tie as tie
+use Rattle.table.specs.Board.{frameOf}
 
 -- the state that the call finds, and what it is asked
 abbrev memoryOf : (s : tie.Start) → List ℕ

@@ -11,14 +11,14 @@ use Rattle.model.specs.Frame.{frameOk}
 use Rattle.model.specs.Sound.{sound, emptySlot}
 use Rattle.model.specs.Fence.{domainFence}
 use Rattle.model.specs.Calls.{closed, slotAt, refuse}
-use Rattle.table.specs.Views.{frameOf}
-use Rattle.table.proofs.Frames.{framed}
-use Rattle.sound.specs.declared.Checked.{Checked}
-use Rattle.sound.proofs.Laws.{says-sound}
+use Rattle.laws.proofs.Frames.{framed}
+use Rattle.scan.specs.declared.Checked.{Checked}
+use Rattle.scan.proofs.Laws.{says-sound}
 use Rattle.slots.proofs.Refusals.{close-frame, close-unsound, close-slot, close-done}
 use Rattle.slots.proofs.Sdids.{slot-low}
 use Rattle.slots.proofs.close.Statement.{statement}
 use Rattle.slots.proofs.close.Tie as tie
+use Rattle.table.specs.Board.{frameOf}
 
 frame-passes : (c : tie.Else1) → let a = c .before .before .before .args in frameOk (frameOf (a .f) (now (a .words))) (now (a .words)) ≡ true
 frame-passes c = sym (c .before .frame-ok .ensures) ∙ not-false _ (c .if1 .left)

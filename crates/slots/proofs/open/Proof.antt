@@ -13,17 +13,17 @@ use Rattle.model.specs.Frame.{frameOk, lent}
 use Rattle.model.specs.Sound.{roots, used, sound, freePages}
 use Rattle.model.specs.Calls as calls
 use Rattle.model.specs.Calls.{refuse}
-use Rattle.table.specs.Views.{frameOf}
-use Rattle.table.proofs.Frames.{framed, bounds}
-use Rattle.sound.specs.declared.Checked.{Checked}
-use Rattle.sound.specs.declared.Free.{Free}
-use Rattle.sound.specs.Free.{clearPages, listed}
-use Rattle.sound.proofs.Laws.{says-sound, checked-free, free-lent, head-lent}
+use Rattle.laws.proofs.Frames.{framed, bounds}
+use Rattle.scan.specs.declared.Checked.{Checked}
+use Rattle.scan.specs.declared.Free.{Free}
+use Rattle.scan.specs.Free.{clearPages, listed}
+use Rattle.scan.proofs.Laws.{says-sound, checked-free, free-lent, head-lent}
 use Rattle.slots.specs.Named.{notEmpty, badSdid}
 use Rattle.slots.proofs.Refusals.{open-frame, open-unsound, open-slot, open-sdid, open-no-room, open-done}
 use Rattle.slots.proofs.Sdids.{slot-low, sdid-low}
 use Rattle.slots.proofs.open.Statement.{statement}
 use Rattle.slots.proofs.open.Tie as tie
+use Rattle.table.specs.Board.{frameOf}
 
 frame-passes : (c : tie.Else1) → let a = c .before .before .before .before .args in frameOk (frameOf (a .f) (now (a .words))) (now (a .words)) ≡ true
 frame-passes c = sym (c .before .frame-ok .ensures) ∙ not-false _ (c .if1 .left)

@@ -8,7 +8,7 @@ use denote.Ref.{now}
 use borrow.Author.Needs.{needs}
 use Rattle.model.specs.Fence.{noFence}
 use Rattle.model.specs.Calls as calls
-use Rattle.table.proofs.Frames.{bounds, lent-in, few-pages}
+use Rattle.laws.proofs.Frames.{bounds, lent-in, few-pages}
 use Rattle.slots.specs.Zeroed.{zeroed}
 use Rattle.slots.proofs.Refusals.{opened-at}
 use Rattle.slots.proofs.open_at.Statement.{statement}

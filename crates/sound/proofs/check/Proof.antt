@@ -1,13 +1,14 @@
 -- `sound::check` meets its contract: what the two passes answer is what the definition of a sound table says (`Pass`).
 use mathlib.Core.Path.{_≡_, sym, _∙_}
 use mathlib.Core.Bool.{true}
+use native.Mathlib.Omega.{arith}
 use denote.Ref.{now}
 use borrow.Author.Tests.{not-true, not-false}
 use borrow.Author.Needs.{needs}
 use Rattle.model.specs.Sound.{roots, used, soundSlots, soundTable, sound}
-use Rattle.table.specs.Views.{frameOf}
-use Rattle.sound.specs.Scan.{marksOf, checkedOf}
-use Rattle.sound.proofs.Pass.{registers-said, tables-said}
+use Rattle.table.specs.Board.{frameOf}
+use Rattle.scan.specs.Scan.{marksOf, checkedOf}
+use Rattle.scan.proofs.Pass.{registers-said, tables-said}
 use Rattle.sound.proofs.check.Statement.{statement}
 use Rattle.sound.proofs.check.Tie as tie
 
@@ -16,7 +17,7 @@ registers-are : (c : tie.After-registers) → let a = c .before .before .before 
     c .registers .result ≡ soundSlots (frameOf (a .f) (now (a .words))) (a .slots)
 registers-are c =
     let a = c .before .before .before .before .before .args in
-    registers-said (a .f) (now (a .words)) (a .slots) _ _ (c .before .before .before .no-sdids .ensures) (c .registers .ensures)
+    registers-said (frameOf (a .f) (now (a .words))) (now (a .words)) (a .slots) _ _ (c .before .before .before .no-sdids .ensures) (c .registers .ensures)
 
 -- what the tables' pass says
 tables-are : (c : tie.After-tables) → let a = c .before .before .before .before .before .before .before .before .args in let F = frameOf (a .f) (now (a .words)) in
@@ -25,7 +26,7 @@ tables-are : (c : tie.After-tables) → let a = c .before .before .before .befor
 tables-are c =
     let n = c .before .before .before .before .before in
     let a = n .before .before .before .args in
-    tables-said (a .f) (now (a .words)) (n .before .before .before .pre) (a .slots) _ _ (n .no-pages .ensures) (c .tables .ensures)
+    tables-said (frameOf (a .f) (now (a .words))) (now (a .words)) (n .before .before .before .pre) (omega arith) (a .slots) _ _ (n .no-pages .ensures) (c .tables .ensures)
 
 no-sdids-requires : tie.Need-no-sdids-requires
 no-sdids-requires c κs = search needs

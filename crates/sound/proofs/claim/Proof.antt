@@ -5,9 +5,9 @@ use Prim.Native.Nat.{_+_, _≤_, _<_}
 use native.Mathlib.Omega.{arith}
 use borrow.Author.Needs.{needs}
 use Rattle.model.specs.Frame.{lent}
-use Rattle.table.specs.Views.{frameOver}
-use Rattle.table.proofs.Frames.{bounds, lent-in}
-use Rattle.sound.specs.Scan.{claimOf, markOf}
+use Rattle.table.specs.Board.{frameOver}
+use Rattle.laws.proofs.Frames.{bounds, lent-in}
+use Rattle.scan.specs.Scan.{claimOf, markOf}
 use Rattle.sound.proofs.claim.Statement.{statement}
 use Rattle.sound.proofs.claim.Tie as tie
 

@@ -2,13 +2,13 @@
 use mathlib.Core.Path.{ap, _∙_}
 use mathlib.Core.Bool.{Bool}
 use borrow.Author.Needs.{needs}
-use Rattle.model.specs.Layout.{rv64}
+use Rattle.table.specs.Board.{board}
 use Rattle.model.specs.Entry as entry
 use Rattle.model.specs.Sound.{cleanPage}
 use Rattle.laws.proofs.Every.{every-cong}
-use Rattle.table.proofs.Frames.{word-at}
-use Rattle.sound.specs.Scan.{answer, linkStep}
-use Rattle.sound.proofs.Steps.{claimed-lent}
+use Rattle.laws.proofs.Frames.{word-at}
+use Rattle.scan.specs.Scan.{answer, linkStep}
+use Rattle.scan.proofs.Steps.{claimed-lent}
 use Rattle.sound.proofs.link.Statement.{statement}
 use Rattle.sound.proofs.link.Tie as tie
 
@@ -27,7 +27,7 @@ returns c = let p = c .before in
     let b = p .before in
     rw (← b .before .claim .ensures, b .if1 .taken)
     (ap (λ (r : Bool). answer r (b .before .claim .last .1 .1 .1 .0))
-    (c .clean .ensures ∙ every-cong _ _ 512 0 (λ i l u. ap (entry.clean rv64) (word-at _ _ _ i _ (p .page-start .ensures .0)))))
+    (c .clean .ensures ∙ every-cong _ _ (board .words) 0 (λ i l u. ap (entry.clean board) (word-at _ _ _ i _ (p .page-start .ensures .0)))))
 
 returns-2 : tie.Need-returns-2
 unfolding linkStep

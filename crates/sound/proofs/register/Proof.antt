@@ -2,7 +2,7 @@
 use borrow.Author.Tests.{eq-eqb, ne-eqb}
 use borrow.Author.Needs.{needs}
 use Rattle.model.specs.Sound.{isOpen}
-use Rattle.sound.specs.Scan.{registerStep, markOf}
+use Rattle.scan.specs.Scan.{registerStep, markOf}
 use Rattle.sound.proofs.register.Statement.{statement}
 use Rattle.sound.proofs.register.Tie as tie
 

@@ -5,13 +5,14 @@ use native.Mathlib.Omega.{arith}
 use lib.ListN.{length, drop}
 use borrow.Author.Needs.{needs}
 use borrow.Author.Tests.{not-true, not-false}
-use Rattle.sound.specs.Scan.{scanAll, registerStep}
-use Rattle.sound.proofs.Steps.{all-on, all-stopped, all-ended}
+use Rattle.table.specs.Board.{board}
+use Rattle.scan.specs.Scan.{scanAll, registerStep}
+use Rattle.scan.proofs.Steps.{all-on, all-stopped, all-ended}
 use Rattle.sound.proofs.registers.Statement.{statement}
 use Rattle.sound.proofs.registers.Tie as tie
 
 abbrev Inv-loop : tie.InvT-loop
-Inv-loop held₀ slots i₀ held i = (i ≤ 8) × (length slots ≡ 8) × (scanAll registerStep held₀ slots ≡ scanAll registerStep held (drop i slots))
+Inv-loop held₀ slots i₀ held i = (i ≤ 8) × (length slots ≡ 8) × (scanAll (registerStep board) held₀ slots ≡ scanAll (registerStep board) held (drop i slots))
 
 abbrev μ-loop : tie.MeasureT-loop
 μ-loop held₀ slots i₀ held i = 8 - i

@@ -5,9 +5,9 @@ use Prim.Native.Nat.{ℕ}
 use denote.Ref.{now}
 use borrow.Author.Needs.{needs}
 use Rattle.model.specs.Frame.{lent}
-use Rattle.table.specs.Views.{frameOf}
-use Rattle.sound.specs.Scan.{scanRun, blockStep, rootStep}
-use Rattle.sound.proofs.Steps.{claimed-lent, words-are-entries}
+use Rattle.table.specs.Board.{frameOf}
+use Rattle.scan.specs.Scan.{scanRun, blockStep, rootStep}
+use Rattle.scan.proofs.Steps.{claimed-lent, words-are-entries}
 use Rattle.sound.proofs.root.Statement.{statement}
 use Rattle.sound.proofs.root.Tie as tie
 

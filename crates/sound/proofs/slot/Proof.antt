@@ -2,7 +2,7 @@
 use borrow.Author.Tests.{eq-eqb, ne-eqb}
 use borrow.Author.Needs.{needs}
 use Rattle.model.specs.Sound.{isOpen}
-use Rattle.sound.specs.Scan.{slotStep}
+use Rattle.scan.specs.Scan.{slotStep}
 use Rattle.sound.proofs.slot.Statement.{statement}
 use Rattle.sound.proofs.slot.Tie as tie
 

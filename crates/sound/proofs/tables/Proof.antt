@@ -5,9 +5,9 @@ use native.Mathlib.Omega.{arith}
 use lib.ListN.{length, drop}
 use borrow.Author.Needs.{needs}
 use borrow.Author.Tests.{not-true, not-false}
-use Rattle.table.specs.Views.{frameOf}
-use Rattle.sound.specs.Scan.{scanAll, slotStep}
-use Rattle.sound.proofs.Steps.{all-on, all-stopped, all-ended}
+use Rattle.table.specs.Board.{frameOf}
+use Rattle.scan.specs.Scan.{scanAll, slotStep}
+use Rattle.scan.proofs.Steps.{all-on, all-stopped, all-ended}
 use Rattle.sound.proofs.tables.Statement.{statement}
 use Rattle.sound.proofs.tables.Tie as tie
 

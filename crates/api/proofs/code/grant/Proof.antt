@@ -1,5 +1,5 @@
 -- `api::code::grant` meets its contract: the tests in the definition's order.
-use Rattle.table.proofs.Tests.{tests}
+use Rattle.laws.proofs.Tests.{tests}
 use Rattle.api.specs.Codes.{permissionAt}
 use Rattle.api.proofs.code.grant.Statement.{statement}
 use Rattle.api.proofs.code.grant.Tie as tie

@@ -1,5 +1,5 @@
 -- `api::code::what` meets its contract: the tests in the definition's order.
-use Rattle.table.proofs.Tests.{tests}
+use Rattle.laws.proofs.Tests.{tests}
 use Rattle.api.specs.Codes.{kindAt}
 use Rattle.api.proofs.code.what.Statement.{statement}
 use Rattle.api.proofs.code.what.Tie as tie

@@ -1,5 +1,5 @@
 -- `api::code::who` meets its contract: the tests in the definition's order.
-use Rattle.table.proofs.Tests.{tests}
+use Rattle.laws.proofs.Tests.{tests}
 use Rattle.api.specs.Codes.{privilegeAt}
 use Rattle.api.proofs.code.who.Statement.{statement}
 use Rattle.api.proofs.code.who.Tie as tie

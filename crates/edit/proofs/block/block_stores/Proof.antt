@@ -7,9 +7,10 @@ use Rattle.forms.specs.Kinds.{formOf}
 use Rattle.model.specs.Entry.{encode}
 use Rattle.model.specs.Forms.{wantTable}
 use Rattle.model.specs.Stores.{needsPage, blockStores}
-use Rattle.table.specs.Views.{entryOf}
+use Rattle.types.specs.Views.{entryOf}
 use Rattle.edit.proofs.block.block_stores.Statement.{statement}
 use Rattle.edit.proofs.block.block_stores.Tie as tie
+use Rattle.table.specs.Board.{INFO}
 
 enum-known-form : tie.Need-enum-known-form
 enum-known-form c = search needs
@@ -20,18 +21,26 @@ mul-put-entry c =
     record { fits = omega arith }
 
 put-entry-requires : tie.Need-put-entry-requires
-put-entry-requires c κs = search needs
+unfolding blockStores encode
+put-entry-requires c κs =
+    let s = c .before .before .before .before .before in
+    let h : c .before .before .form .given .0 .0 < 4 = rw (c .before .before .form .given .1) at (s .pre .5) in
+    (s .pre .0, s .pre .3, omega arith, rw (c .before .before .form .given .1) at (s .pre .6))
 
 enum-known-form-2 : tie.Need-enum-known-form-2
 enum-known-form-2 c = search needs
 
 add-put-entry : tie.Need-add-put-entry
 add-put-entry c =
-    let h : c .before .before .form2 .given .0 .0 < 2 ^ 32 = rw (c .before .before .form2 .given .1) at (c .before .before .before .before .before .pre .5) in
+    let h : c .before .before .form2 .given .0 .0 < INFO = rw (c .before .before .form2 .given .1) at (c .before .before .before .before .before .pre .5) in
     record { fits = omega arith }
 
 put-entry-requires-2 : tie.Need-put-entry-requires-2
-put-entry-requires-2 c κs = search needs
+unfolding blockStores encode
+put-entry-requires-2 c κs =
+    let s = c .before .before .before .before .before in
+    let h : c .before .before .form2 .given .0 .0 < INFO = rw (c .before .before .form2 .given .1) at (s .pre .5) in
+    (s .pre .0, s .pre .3, omega arith, rw (c .before .before .form2 .given .1) at (s .pre .6))
 
 enum-told : tie.Need-enum-told
 enum-told c = search needs
@@ -39,7 +48,7 @@ enum-told c = search needs
 table-stores-requires : tie.Need-table-stores-requires
 table-stores-requires c κs =
     let s = c .before .before .before .before in
-    (s .pre .0, s .pre .1, s .pre .2, s .pre .3, rw (c .before .enum-told .given .1) at (s .pre .4))
+    (s .pre .0, s .pre .1, s .pre .2, s .pre .3, rw (c .before .enum-told .given .1) at (s .pre .4), rw (c .before .enum-told .given .1) at (s .pre .6))
 
 same-length : tie.Need-same-length
 same-length c = search needs

@@ -1,17 +1,18 @@
-use mathlib.Core.Path.{_≡_, sym, ap, _∙_}
+use mathlib.Core.Path.{_≡_, sym, ap, ap₂, _∙_}
 use mathlib.Core.List.{List}
 use Prim.Native.Nat.{ℕ, _+_, _-_, _*_, _%_, _≤_, _<_}
 use native.Mathlib.Omega.{arith}
 use lib.ListN.{drop}
-use Rattle.edit.proofs.BlockRows.{Entrywise, row-stores, row-pages, flat-entry}
+use Rattle.edit.proofs.BlockRows.{row-stores, row-pages, flat-entry}
 use Rattle.edit.specs.Kinds.{freeList}
 use Rattle.entries.specs.Rows.{rowStores}
+use Rattle.edit.specs.Over.{storesOver}
+use Rattle.entries.specs.Ahead.{Ahead}
+use Rattle.entries.proofs.Order.{ahead-of}
 use Rattle.entries.specs.Run.{run}
 use Rattle.entries.proofs.Places.{place}
 use Rattle.range.specs.Kinds.{requestOf}
-use Rattle.model.specs.Frame.{indexOf}
 use Rattle.model.specs.Stores.{Store}
-use Rattle.table.specs.Views.{frameOf}
 use borrow.Author.Needs.{needs}
 use Rattle.edit.proofs.block.flat_blocks.Statement.{statement}
 use Rattle.edit.proofs.block.flat_blocks.Tie as tie
@@ -19,6 +20,7 @@ use Rattle.edit.proofs.block.flat_blocks.Reads as reads
 use Rattle.edit.proofs.block.flat_blocks.Lts as lts
 use Rattle.entries.proofs.rows.flat_entries.Reads as flat-entries-reads
 use Rattle.forms.proofs.words.page_at.Reads as page-at-reads
+use Rattle.table.specs.Board.{frameOf, TYPEUNIT}
 
 -- src/block.rt:194:13
 sub-n : tie.Need-sub-n
@@ -33,12 +35,35 @@ add-at : tie.Need-add-at
 add-at c = search needs
 
 -- src/block.rt:196:48
-mul-flat-entries : tie.Need-mul-flat-entries
-mul-flat-entries c = search needs
+mul-narrow : tie.Need-mul-narrow
+mul-narrow c = search needs
+
+narrow-requires : tie.Need-narrow-requires
+narrow-requires c κs = search needs
+
+-- the row's stores are those of its blocks
+row-here : (w : tie.After-narrow) → let p = w .before .before .before in let a = p .before .before .before .args in
+    rowStores (a .words .now) (λ x. w .narrow .result) (32 - a .b % 32) (p .page-at .result + a .b)
+    ≡ storesOver (frameOf (a .f) (a .words .now)) (a .words .now) (requestOf (a .q)) (a .root .0) (a .gib) (32 - a .b % 32) (a .b) (drop (a .next) (freeList (a .free)))
+row-here w =
+    let p = w .before .before .before in
+    let s = p .before .before .before in
+    let a = s .args in
+    let m = a .words .now in
+    let F = frameOf (a .f) m in
+    let n = 32 - a .b % 32 in
+    ap₂ (λ (x k : ℕ). rowStores m (λ y. x) n k) (w .narrow .ensures) (place F (a .root .0) (a .b) _ (p .page-at .ensures .0))
+    ∙ sym (row-stores F m (requestOf (a .q)) (a .root .0) (a .gib) (λ y. a .gib .p * TYPEUNIT) n (a .b) (drop (a .next) (freeList (a .free))) (λ x lo hi. flat-entry (a .f) m (requestOf (a .q)) (a .root .0) (a .gib) (s .pre .3) x))
 
 -- src/block.rt:196:9
 flat-entries-requires : tie.Need-flat-entries-requires
-flat-entries-requires c κs = search needs
+flat-entries-requires c κs =
+    let s = c .before .before .before .before .before .before in
+    let a = s .args in
+    let m = a .words .now in
+    let n = 32 - a .b % 32 in
+    let next : Ahead m (rowStores m (λ w. c .narrow .result) n (c .before .before .before .page-at .result + a .b)) = ahead-of (sym (row-here c)) (s .pre .4) in
+    search needs
 
 -- src/block.rt:180:1
 same-length : tie.Need-same-length
@@ -47,20 +72,15 @@ same-length c = search needs
 -- src/block.rt:180:1
 returns : tie.Need-returns
 returns c =
-    let s = c .before .before .before .before .before .before .before .before .before in
+    let s = c .before .before .before .before .before .before .before .before .before .before in
     let a = s .args in
     let m = a .words .now in
     let F = frameOf (a .f) m in
     let n = 32 - a .b % 32 in
-    let at : c .before .before .before .before .before .before .page-at .result + a .b ≡ indexOf F (a .root .0) (a .b) = place F (a .root .0) (a .b) _ (c .before .before .before .before .before .before .page-at .ensures .0) in
-    let flat : (x : ℕ) → a .b ≤ x → x < a .b + n → Entrywise F m (requestOf (a .q)) (a .root .0) (a .gib) (λ w. a .gib .p * 0x1000_0000_0000) x
-    = λ x lo hi. flat-entry (a .f) m (requestOf (a .q)) (a .root .0) (a .gib) (s .pre .3) x in
     record {
       made =
-          c .before .before .before .flat-entries .ensures
-          ∙ ap (λ (k : ℕ). run (a .left) (rowStores m (λ w. a .gib .p * 0x1000_0000_0000) n k) m) at
-          ∙ ap (λ (ss : List Store). run (a .left) ss m) (sym (row-stores F m (requestOf (a .q)) (a .root .0) (a .gib) (λ w. a .gib .p * 0x1000_0000_0000) n (a .b) (drop (a .next) (freeList (a .free))) flat));
-      pages = omega (arith, row-pages F m (requestOf (a .q)) (a .root .0) (a .gib) (λ w. a .gib .p * 0x1000_0000_0000) n (a .b) flat);
+          c .before .before .before .flat-entries .ensures ∙ ap (λ (ss : List Store). run (a .left) ss m) (row-here (c .before .before .before .before));
+      pages = omega (arith, row-pages F m (requestOf (a .q)) (a .root .0) (a .gib) (λ w. a .gib .p * TYPEUNIT) n (a .b) (λ x lo hi. flat-entry (a .f) m (requestOf (a .q)) (a .root .0) (a .gib) (s .pre .3) x));
       some = omega arith;
       within = omega arith;
     }
@@ -68,4 +88,4 @@ returns c =
 pub flat-blocks-spec : {M : Type 1} → statement M
 flat-blocks-spec =
     tie.close
-    (tie.spec sub-n page-at-requires add-at mul-flat-entries flat-entries-requires same-length returns)
+    (tie.spec sub-n page-at-requires add-at mul-narrow narrow-requires flat-entries-requires same-length returns)

@@ -1,6 +1,13 @@
-use Prim.Native.Nat.{_+_}
+use Prim.Native.Nat.{_+_, _-_, _%_}
+use lib.ListN.{drop}
 use native.Mathlib.Omega.{arith}
 use borrow.Author.Needs.{needs}
+use Rattle.edit.proofs.BlockRows.{ahead-over}
+use Rattle.edit.specs.Kinds.{freeList}
+use Rattle.edit.specs.Over.{storesOver}
+use Rattle.entries.specs.Ahead.{Ahead}
+use Rattle.range.specs.Kinds.{requestOf}
+use Rattle.table.specs.Board.{frameOf}
 use Rattle.edit.proofs.block.next_blocks.Statement.{statement}
 use Rattle.edit.proofs.block.next_blocks.Tie as tie
 use Rattle.edit.proofs.block.next_blocks.Reads as reads
@@ -28,7 +35,12 @@ blocks-outside-requires c κs = search needs
 
 -- src/block.rt:260:9
 one-block-requires : tie.Need-one-block-requires
-one-block-requires c κs = search needs
+one-block-requires c κs =
+    let s = c .before .before .before .before .before in
+    let a = s .args in
+    let next : Ahead (a .words .now) (storesOver (frameOf (a .f) (a .words .now)) (a .words .now) (requestOf (a .q)) (a .root .0) (a .gib) 1 (a .b) (drop (a .next) (freeList (a .free))))
+    = ahead-over _ _ _ _ _ 1 (32 - a .b % 32) (a .b) _ (omega arith) (s .pre .6) in
+    search needs
 
 -- src/block.rt:260:9
 same-length-2 : tie.Need-same-length-2
@@ -53,6 +65,7 @@ outside-blocks-requires c κs =
       omega (arith, c .before .if2 .left),
       n .ensures .0,
       n .ensures .1,
+      s .pre .6,
     )
 
 -- src/block.rt:240:1

@@ -11,15 +11,18 @@ use borrow.Author.Needs.{needs}
 use Rattle.edit.proofs.Facts.{form-encodes}
 use Rattle.edit.proofs.BlockRows.{over-one, pages-one}
 use Rattle.edit.specs.Kinds.{Encodes, storesAt, freeList}
+use Rattle.edit.specs.Over.{storesOver}
+use Rattle.entries.proofs.Order.{ahead-of}
 use Rattle.entries.specs.Run.{run}
 use Rattle.range.specs.Kinds.{requestOf}
 use Rattle.forms.specs.Kinds.{formOf, formAt}
 use Rattle.model.specs.Entry.{Entry}
 use Rattle.model.specs.Numbers.{if_then_else_}
-use Rattle.table.specs.Views.{frameOf, entryOf}
+use Rattle.types.specs.Views.{entryOf}
 use Rattle.theory.specs.Rooted.{Good}
 use Rattle.edit.proofs.block.one_block.Statement.{statement}
 use Rattle.edit.proofs.block.one_block.Tie as tie
+use Rattle.table.specs.Board.{board, WORDS, frameOf}
 
 good-here : (c : tie.After-entry-at) → let a = c .before .before .before .args in Good (frameOf (a .f) (a .words .now)) (a .words .now) (entryOf (c .entry-at .result))
 good-here c =
@@ -32,6 +35,19 @@ form-here c =
     let a = c .before .before .before .before .before .args in
     c .block-form .ensures
     ∙ ap (λ (e : Entry). formIn (frameOf (a .f) (a .words .now)) (a .words .now) (requestOf (a .q)) (a .gib .one) (a .gib .p) e (a .b)) (c .before .before .entry-at .ensures)
+
+-- the stores that the code makes are those of the block
+block-here : (p : tie.After-page-from) → let bf = p .before in let a = bf .before .before .before .before .before .args in
+    blockStores (frameOf (a .f) (a .words .now)) (a .words .now) (requestOf (a .q)) (a .root .0) (formOf (bf .block-form .result)) (entryOf (bf .before .before .entry-at .result)) (a .b) (p .page-from .result .0)
+    ≡ storesOver (frameOf (a .f) (a .words .now)) (a .words .now) (requestOf (a .q)) (a .root .0) (a .gib) 1 (a .b) (drop (a .next) (freeList (a .free)))
+block-here p =
+    let bf = p .before in
+    let ea = bf .before .before in
+    let a = ea .before .before .before .args in
+    let F = frameOf (a .f) (a .words .now) in
+    ap₂ (λ (x : Form) (e : Entry). blockStores F (a .words .now) (requestOf (a .q)) (a .root .0) x e (a .b) (p .page-from .result .0)) (form-here bf) (ea .entry-at .ensures)
+    ∙ ap (storesAt F (a .words .now) (requestOf (a .q)) (a .root .0) (a .gib) (a .b)) (p .page-from .ensures)
+    ∙ sym (over-one F (a .words .now) (requestOf (a .q)) (a .root .0) (a .gib) (a .b) (drop (a .next) (freeList (a .free))))
 
 entry-at-requires : tie.Need-entry-at-requires
 entry-at-requires c κs = search needs
@@ -58,9 +74,10 @@ block-stores-requires c κs =
       good-here ea,
       s .pre .0 .isLent,
       λ z. let y = s .pre .5 (sym (ap₂ (λ (x : Form) (e : Entry). needsPage x e) (form-here bf) (ea .entry-at .ensures)) ∙ z) in
-          subst (λ (n : ℕ). (lent (frameOf (a .f) (a .words .now)) n ≡ true) × (n < 2 ^ 44)) (sym (c .before .before .page-from .ensures)) y,
+          subst (λ (n : ℕ). (lent (frameOf (a .f) (a .words .now)) n ≡ true) × (n < 2 ^ board .infoBits)) (sym (c .before .before .page-from .ensures)) y,
       subst Encodes (sym (bf .block-form .ensures))
-          (form-encodes (a .f .paw) (a .f .first .0) (length (a .words .now) / 512) (a .words .now) (requestOf (a .q)) (s .pre .2 .small) (entryOf (ea .entry-at .result)) (good-here ea) (a .gib .one) (a .gib .p) (a .b) (s .pre .3)),
+          (form-encodes (a .f .paw) (a .f .first .0) (length (a .words .now) / WORDS) (a .words .now) (requestOf (a .q)) (s .pre .2 .small) (entryOf (ea .entry-at .result)) (good-here ea) (a .gib .one) (a .gib .p) (a .b) (s .pre .3)),
+      ahead-of (sym (block-here (c .before .before))) (s .pre .6),
     )
 
 same-length : tie.Need-same-length
@@ -72,14 +89,10 @@ returns c =
     let a = s .args in
     let bf = c .before .before .before .before .before .before .before in
     let ea = bf .before .before in
-    let pf = c .before .before .before .before .before .before .page-from in
     let F = frameOf (a .f) (a .words .now) in
     record {
       made =
-          c .before .before .before .block-stores .ensures
-          ∙ ap₂ (λ (x : Form) (e : Entry). run (a .left) (blockStores F (a .words .now) (requestOf (a .q)) (a .root .0) x e (a .b) (pf .result .0)) (a .words .now)) (form-here bf) (ea .entry-at .ensures)
-          ∙ ap (λ (n : ℕ). run (a .left) (storesAt F (a .words .now) (requestOf (a .q)) (a .root .0) (a .gib) (a .b) n) (a .words .now)) (pf .ensures)
-          ∙ ap (λ (ss : List Store). run (a .left) ss (a .words .now)) (sym (over-one F (a .words .now) (requestOf (a .q)) (a .root .0) (a .gib) (a .b) (drop (a .next) (freeList (a .free)))));
+          c .before .before .before .block-stores .ensures ∙ ap (λ (ss : List Store). run (a .left) ss (a .words .now)) (block-here (c .before .before .before .before .before .before));
       pages =
           c .before .before .before .before .before .next-page .ensures
           ∙ ap₂ (λ (x : Form) (e : Entry). if needsPage x e then a .next + 1 else a .next) (form-here bf) (ea .entry-at .ensures)

@@ -1,19 +1,20 @@
 use mathlib.Core.Path.{_≡_, sym, ap, _∙_, subst}
 use mathlib.Core.List.{List, headD}
-use Prim.Native.Nat.{ℕ, _+_, _^_, _≤_, _<_}
+use Prim.Native.Nat.{ℕ, _+_, _-_, _%_, _^_, _≤_, _<_}
 use native.Mathlib.Omega.{arith}
 use lib.ListN.{drop, getD}
-use Rattle.edit.proofs.BlockRows.{Entrywise, row-stores, row-pages, pieces-entry}
+use Rattle.edit.proofs.BlockRows.{Entrywise, ahead-over, row-stores, row-pages, pieces-entry}
 use Rattle.entries.proofs.RowLaws.{row-none}
 use Rattle.edit.specs.Kinds.{freeList, Fresh}
-use Rattle.edit.specs.Over.{Did}
-use Rattle.entries.specs.Rows.{rowStores, piecesWord}
+use Rattle.edit.specs.Over.{Did, storesOver}
+use Rattle.entries.specs.Ahead.{Ahead}
+use Rattle.entries.proofs.Order.{ahead-of}
+use Rattle.entries.specs.Rows.{rowStores, piecesWord, PiecesAhead}
 use Rattle.entries.specs.Run.{run}
 use Rattle.entries.proofs.Places.{place}
 use Rattle.range.specs.Kinds.{requestOf, Fair}
 use Rattle.model.specs.Frame.{blocks, indexOf}
 use Rattle.model.specs.Stores.{Store}
-use Rattle.table.specs.Views.{frameOf}
 use Rattle.theory.specs.Rooted.{Rooted}
 use borrow.Author.Needs.{needs}
 use Rattle.edit.proofs.block.outside_blocks.Statement.{statement}
@@ -23,6 +24,7 @@ use Rattle.edit.proofs.block.outside_blocks.Lts as lts
 use Rattle.edit.proofs.block.one_block.Reads as one-block-reads
 use Rattle.entries.proofs.rows.pieces_row.Reads as pieces-row-reads
 use Rattle.forms.proofs.words.page_at.Reads as page-at-reads
+use Rattle.table.specs.Board.{INFO, frameOf}
 
 -- a first entry with an L1 page: nothing is stored yet
 nothing : (c : tie.Then1) → c .before .before .before .before .pieces-row .last .0 ≡ c .before .before .before .before .before .before .before .before .before .args .words .now
@@ -39,9 +41,43 @@ page-at-requires c κs = search needs
 add-at : tie.Need-add-at
 add-at c = search needs
 
+-- the row's stores, as far as no block has an L1 page, are those of its blocks
+abbrev NoTable : (p : tie.After-page-at) → ℕ → Type 0
+NoTable p n = let a = p .before .before .before .args in (k : ℕ) → p .page-at .result + a .b ≤ k → k < p .page-at .result + a .b + n → piecesWord (getD (a .words .now) k 0) ≡ 0 → ⊥
+
+entries-here : (p : tie.After-page-at) (n : ℕ) → let a = p .before .before .before .args in
+    n ≤ a .n → NoTable p n → (x : ℕ) → a .b ≤ x → x < a .b + n → Entrywise (frameOf (a .f) (a .words .now)) (a .words .now) (requestOf (a .q)) (a .root .0) (a .gib) piecesWord x
+entries-here p n few some x lo hi =
+    let s = p .before .before .before in
+    let a = s .args in
+    let m = a .words .now in
+    let F = frameOf (a .f) m in
+    let k : p .page-at .result + x ≡ indexOf F (a .root .0) x = place F (a .root .0) x _ (p .page-at .ensures .0) in
+    pieces-entry (a .f) m (requestOf (a .q)) (a .root .0) (a .gib) (s .pre .2 .small) (s .pre .6) (s .pre .0 .isLent) x (s .pre .0 .good x (omega (arith, s .pre .1)))
+    (λ y l u. s .pre .9 y (omega arith) (omega arith))
+    (subst (λ (y : ℕ). piecesWord (getD m y 0) ≡ 0 → ⊥) k (some _ (omega arith) (omega arith)))
+
+row-here : (p : tie.After-page-at) (n : ℕ) → let a = p .before .before .before .args in n ≤ a .n → NoTable p n
+    → rowStores (a .words .now) piecesWord n (p .page-at .result + a .b)
+    ≡ storesOver (frameOf (a .f) (a .words .now)) (a .words .now) (requestOf (a .q)) (a .root .0) (a .gib) n (a .b) (drop (a .next) (freeList (a .free)))
+row-here p n few some =
+    let a = p .before .before .before .args in
+    let m = a .words .now in
+    let F = frameOf (a .f) m in
+    ap (rowStores m piecesWord n) (place F (a .root .0) (a .b) _ (p .page-at .ensures .0))
+    ∙ sym (row-stores F m (requestOf (a .q)) (a .root .0) (a .gib) piecesWord n (a .b) (drop (a .next) (freeList (a .free))) (entries-here p n few some))
+
 -- src/block.rt:226:9
 pieces-row-requires : tie.Need-pieces-row-requires
-pieces-row-requires c κs = search needs
+pieces-row-requires c κs =
+    let p = c .before in
+    let s = p .before .before .before in
+    let a = s .args in
+    let m = a .words .now in
+    let F = frameOf (a .f) m in
+    let next : PiecesAhead m (a .n) (p .page-at .result + a .b)
+    = λ k few some. ahead-of (sym (row-here p k few some)) (ahead-over F m (requestOf (a .q)) (a .root .0) (a .gib) k (32 - a .b % 32) (a .b) (drop (a .next) (freeList (a .free))) (omega (arith, s .pre .8)) (s .pre .10)) in
+    search needs
 
 -- src/block.rt:228:9
 one-block-requires : tie.Need-one-block-requires
@@ -51,8 +87,9 @@ one-block-requires c κs =
     let a = s .args in
     subst
     (λ (x : List ℕ). Rooted (frameOf (a .f) x) x (a .root .0) × (a .b < blocks (frameOf (a .f) x)) × Fair (a .q) × (a .gib .p < 4) × (a .next < 2 ^ 32)
-    × Fresh (frameOf (a .f) x) x (requestOf (a .q)) (a .root .0) (a .gib) (a .b) (headD (drop (a .next) (freeList (a .free))) 0))
-    (sym (nothing t)) (s .pre .0, omega (arith, s .pre .1, s .pre .7), s .pre .2, s .pre .3, s .pre .4, s .pre .5)
+    × Fresh (frameOf (a .f) x) x (requestOf (a .q)) (a .root .0) (a .gib) (a .b) (headD (drop (a .next) (freeList (a .free))) 0)
+    × Ahead x (storesOver (frameOf (a .f) x) x (requestOf (a .q)) (a .root .0) (a .gib) 1 (a .b) (drop (a .next) (freeList (a .free)))))
+    (sym (nothing t)) (s .pre .0, omega (arith, s .pre .1, s .pre .7), s .pre .2, s .pre .3, s .pre .4, s .pre .5, ahead-over _ _ _ _ _ 1 (32 - a .b % 32) (a .b) _ (omega arith) (s .pre .10))
 
 -- src/block.rt:228:9
 same-length : tie.Need-same-length
@@ -79,19 +116,10 @@ returns-2 c =
     let F = frameOf (a .f) m in
     let r = c .before .before .before .before .before .pieces-row in
     let n = r .result .count in
-    let at : c .before .before .before .before .before .before .before .page-at .result + a .b ≡ indexOf F (a .root .0) (a .b) = place F (a .root .0) (a .b) _ (c .before .before .before .before .before .before .before .page-at .ensures .0) in
-    let row : (x : ℕ) → a .b ≤ x → x < a .b + n → Entrywise F m (requestOf (a .q)) (a .root .0) (a .gib) piecesWord x
-    = λ x lo hi.
-    let k : c .before .before .before .before .before .before .before .page-at .result + x ≡ indexOf F (a .root .0) x = place F (a .root .0) x _ (c .before .before .before .before .before .before .before .page-at .ensures .0) in
-    pieces-entry (a .f) m (requestOf (a .q)) (a .root .0) (a .gib) (s .pre .2 .small) (s .pre .6) (s .pre .0 .isLent) x (s .pre .0 .good x (omega (arith, s .pre .1, r .ensures .0)))
-    (λ y l u. s .pre .9 y (omega arith) (omega (arith, r .ensures .0)))
-    (subst (λ (y : ℕ). piecesWord (getD m y 0) ≡ 0 → ⊥) k (r .ensures .1 _ (omega arith) (omega arith))) in
+    let p = c .before .before .before .before .before .before .before in
     record {
-      made =
-          r .ensures .2
-          ∙ ap (λ (k : ℕ). run (a .left) (rowStores m piecesWord n k) m) at
-          ∙ ap (λ (ss : List Store). run (a .left) ss m) (sym (row-stores F m (requestOf (a .q)) (a .root .0) (a .gib) piecesWord n (a .b) (drop (a .next) (freeList (a .free))) row));
-      pages = omega (arith, row-pages F m (requestOf (a .q)) (a .root .0) (a .gib) piecesWord n (a .b) row);
+      made = r .ensures .2 ∙ ap (λ (ss : List Store). run (a .left) ss m) (row-here p n (r .ensures .0) (r .ensures .1));
+      pages = omega (arith, row-pages F m (requestOf (a .q)) (a .root .0) (a .gib) piecesWord n (a .b) (entries-here p n (r .ensures .0) (r .ensures .1)));
       some = omega (arith, c .before .if1 .left);
       within = omega (arith, s .pre .8, r .ensures .0);
     }

@@ -3,14 +3,19 @@ use mathlib.Core.List.{List, [], _∷_}
 use Prim.Native.Nat.{ℕ, _+_}
 use borrow.Author.Needs.{needs}
 use Rattle.edit.proofs.BlockRows.{changed-l2}
+use Rattle.entries.proofs.Order.{ahead-of}
 use Rattle.entries.specs.Run.{run}
 use Rattle.entries.proofs.Places.{place}
 use Rattle.range.specs.Kinds.{requestOf}
-use Rattle.model.specs.Frame.{indexOf}
-use Rattle.model.specs.Stores.{Store}
-use Rattle.table.specs.Views.{frameOf, entryOf}
+use lib.Dec.{eqb}
+use lib.ListN.{getD}
+use Rattle.model.specs.Numbers.{if_then_else_}
+use Rattle.table.specs.Stored.{storeOf}
+use Rattle.model.specs.Stores.{Store, ifChangedL2}
+use Rattle.types.specs.Views.{entryOf}
 use Rattle.edit.proofs.block.put_entry.Statement.{statement}
 use Rattle.edit.proofs.block.put_entry.Tie as tie
+use Rattle.table.specs.Board.{frameOf}
 
 page-at-requires : tie.Need-page-at-requires
 page-at-requires c κs = search needs
@@ -18,20 +23,30 @@ page-at-requires c κs = search needs
 add-at : tie.Need-add-at
 add-at c = search needs
 
-put-changed-requires : tie.Need-put-changed-requires
-put-changed-requires c κs = search needs
+narrow-requires : tie.Need-narrow-requires
+narrow-requires c κs = search needs
 
 same-length : tie.Need-same-length
 same-length c = search needs
 
+-- the store that the code makes, if any
+entry-store : (n : tie.After-narrow) → let p = n .before .before in let a = p .before .before .before .args in
+    (if eqb (getD (a .words .now) (p .page-at .result + a .b) 0) (n .narrow .result) then [] else storeOf (p .page-at .result + a .b) (n .narrow .result) ∷ [])
+    ≡ ifChangedL2 (frameOf (a .f) (a .words .now)) (a .words .now) (a .root .0) (a .b) (a .word)
+entry-store n =
+    let p = n .before .before in
+    let a = p .before .before .before .args in
+    let F = frameOf (a .f) (a .words .now) in
+    changed-l2 F (a .words .now) (a .root .0) (a .b) _ _ (place F (a .root .0) (a .b) _ (p .page-at .ensures .0)) ∙ ap (ifChangedL2 F (a .words .now) (a .root .0) (a .b)) (n .narrow .ensures)
+
+put-changed-requires : tie.Need-put-changed-requires
+put-changed-requires c κs = (search needs, ahead-of (sym (entry-store c)) (c .before .before .before .before .before .pre .3))
+
 returns : tie.Need-returns
 returns c =
-    let a = c .before .before .before .before .before .before .before .args in
-    let at : c .before .before .before .before .page-at .result + a .b ≡ indexOf (frameOf (a .f) (a .words .now)) (a .root .0) (a .b)
-    = place _ (a .root .0) (a .b) _ (c .before .before .before .before .page-at .ensures .0) in
-    c .before .before .put-changed .ensures
-    ∙ ap (λ (ss : List Store). run (a .left) ss (a .words .now)) (changed-l2 (frameOf (a .f) (a .words .now)) (a .words .now) (a .root .0) (a .b) (a .word) _ at)
+    let a = c .before .before .before .before .before .before .before .before .args in
+    c .before .before .put-changed .ensures ∙ ap (λ (ss : List Store). run (a .left) ss (a .words .now)) (entry-store (c .before .before .before))
 
 pub put-entry-spec : {M : Type 1} → statement M
 put-entry-spec =
-    tie.close (tie.spec page-at-requires add-at put-changed-requires same-length returns)
+    tie.close (tie.spec page-at-requires add-at narrow-requires put-changed-requires same-length returns)

@@ -1,10 +1,10 @@
 use mathlib.Core.Path.{_∙_}
 use Prim.Native.Nat.{_-_}
 use native.Mathlib.Omega.{arith}
-use Rattle.entries.proofs.NewPage.{New, new-start, new-next, new-cut, new-end, new-good, new-lent}
+use Rattle.entries.proofs.NewPage.{New, new-start, new-ahead, new-next, new-cut, new-end, new-good, new-lent}
 use Rattle.range.specs.Kinds.{requestOf}
 use Rattle.model.specs.Numbers.{joined}
-use Rattle.table.specs.Views.{entryOf}
+use Rattle.types.specs.Views.{entryOf}
 use Rattle.entries.proofs.fresh.new_entries.Statement.{statement}
 use Rattle.entries.proofs.fresh.new_entries.Tie as tie
 
@@ -15,9 +15,10 @@ abbrev μ-loop : tie.MeasureT-loop
 μ-loop f words₀ q e b new from to more₀ i₀ words more i = to - i
 
 loop-holds : tie.Need-loop-holds Inv-loop μ-loop
-loop-holds c = new-start (c .before .pre .1) (c .before .pre .2)
+loop-holds c = new-start (c .before .pre .1) (c .before .pre .2) (c .before .pre .7)
 
 new-entry-requires : tie.Need-new-entry-requires Inv-loop μ-loop
+unfolding joined
 new-entry-requires c κs =
     let l = c .before .before in
     let s = l .before .before in
@@ -27,6 +28,7 @@ new-entry-requires c κs =
       s .pre .3,
       new-good inv (s .pre .6) (s .pre .4),
       new-lent inv (s .pre .5),
+      new-ahead inv 1 (omega (arith, c .before .loop-test .taken)) (s .pre .3 .small) (s .pre .6),
     )
 
 same-length : tie.Need-same-length Inv-loop μ-loop

@@ -3,8 +3,8 @@ use mathlib.Core.Path.{_≡_, _∙_}
 use Prim.Native.Nat.{_+_, _-_}
 use native.Mathlib.Omega.{arith}
 use Rattle.range.specs.Kinds.{requestOf}
-use Rattle.table.specs.Views.{entryOf}
-use Rattle.entries.proofs.NewPage.{New, new-start, new-next, new-cut, new-end, new-good, new-lent}
+use Rattle.types.specs.Views.{entryOf}
+use Rattle.entries.proofs.NewPage.{New, new-start, new-ahead, new-next, new-cut, new-end, new-good, new-lent}
 use Rattle.entries.proofs.fresh.old_entries.Statement.{statement}
 use Rattle.entries.proofs.fresh.old_entries.Tie as tie
 
@@ -15,7 +15,7 @@ abbrev μ-loop : tie.MeasureT-loop
 μ-loop f words₀ q e b new from to more₀ i₀ words more i = to - i
 
 loop-holds : tie.Need-loop-holds Inv-loop μ-loop
-loop-holds c = new-start (c .before .pre .1) (c .before .pre .2)
+loop-holds c = new-start (c .before .pre .1) (c .before .pre .2) (c .before .pre .8)
 
 same-until-requires : tie.Need-same-until-requires Inv-loop μ-loop
 same-until-requires c κs = (c .loop-test .taken, c .before .before .before .pre .1)
@@ -36,6 +36,7 @@ old-fill-requires c κs =
       s .pre .6,
       λ k lo hi. s .pre .7 k (omega (arith, inv .past)) (omega (arith, inv .past, end .0, end .1)),
       λ k lo hi. end .2 _ _ k lo hi,
+      new-ahead inv (u .same-until .result - l .loop .i) (omega (arith, end .0, end .1)) (s .pre .3 .small) (s .pre .6),
     )
 
 same-length : tie.Need-same-length Inv-loop μ-loop

@@ -8,13 +8,17 @@ use borrow.Author.Needs.{needs}
 use Rattle.model.specs.Forms.{l1Word}
 use Rattle.model.specs.Frame.{indexOf}
 use Rattle.model.specs.Stores.{Store}
-use Rattle.table.specs.Views.{frameOf, entryOf}
+use Rattle.types.specs.Views.{entryOf}
 use Rattle.range.specs.Kinds.{requestOf}
 use Rattle.forms.specs.Kinds.{oldWord}
 use Rattle.forms.proofs.EntryLaws.{word-outside}
+use Rattle.table.specs.Board.{WORDS, ENTRY, frameOf}
 use Rattle.entries.specs.Rows.{fillStores}
 use Rattle.entries.specs.Run.{run}
+use Rattle.entries.specs.Ahead.{Ahead}
+use Rattle.entries.specs.Pages.{newRun}
 use Rattle.entries.proofs.NewPage.{fill-run}
+use Rattle.entries.proofs.Order.{ahead-of}
 use Rattle.entries.proofs.Places.{place}
 use Rattle.entries.proofs.fresh.old_fill.Statement.{statement}
 use Rattle.entries.proofs.fresh.old_fill.Tie as tie
@@ -23,7 +27,9 @@ sub-n : tie.Need-sub-n
 sub-n c = search needs
 
 new-entries-requires : tie.Need-new-entries-requires
-new-entries-requires c κs = search needs
+new-entries-requires c κs =
+    let s = c .before .before .before .before in
+    (s .pre .0, s .pre .1, omega (arith, s .pre .2), s .pre .3, s .pre .4, s .pre .5, s .pre .6, s .pre .9)
 
 same-length : tie.Need-same-length
 same-length c = search needs
@@ -34,14 +40,14 @@ returns c = search needs
 old-word-requires : tie.Need-old-word-requires
 old-word-requires c κs = search needs
 
+narrow-requires : tie.Need-narrow-requires
+narrow-requires c κs = search needs
+
 page-at-requires : tie.Need-page-at-requires
 page-at-requires c κs = search needs
 
 add-at : tie.Need-add-at
 add-at c = search needs
-
-fill-requires : tie.Need-fill-requires
-fill-requires c κs = search needs
 
 same-length-2 : tie.Need-same-length-2
 same-length-2 c = search needs
@@ -53,26 +59,39 @@ word-of c k lo hi =
     let s = c .before .before .before .before .before in
     let a = s .args in
     let m = a .words .now in
-    let same : c .old-word .result ≡ oldWord (frameOf (a .f) m) m (entryOf (a .e)) k = c .old-word .ensures ∙ sym (s .pre .8 k lo hi) in
+    let same : c .old-word .result ≡ oldWord (frameOf (a .f) m) m (entryOf (a .e)) k = c .old-word .ensures .0 ∙ sym (s .pre .8 k lo hi) in
     same
-    ∙ word-outside (a .f .paw) (a .f .first .0) (length m / 512) m (requestOf (a .q)) (s .pre .3 .small) (entryOf (a .e)) (s .pre .4) (a .b) k (omega (arith, s .pre .1))
-    (subst (λ (w : ℕ). w < 2 ^ 64) same (c .old-word .ok))
+    ∙ word-outside (a .f .paw) (a .f .first .0) (length m / WORDS) m (requestOf (a .q)) (s .pre .3 .small) (entryOf (a .e)) (s .pre .4) (a .b) k (omega (arith, s .pre .1))
+    (subst (λ (w : ℕ). w < ENTRY) same (c .old-word .ensures .1))
     (λ j l h. s .pre .7 j (omega arith) (omega arith))
 
-returns-2 : tie.Need-returns-2
-returns-2 c =
-    let p = c .before .before .before .before in
-    let o = p .before .before in
+-- so a fill makes the stores of the run
+same-stores : (p : tie.After-page-at) → let w = p .before .before in let s = w .before .before .before .before .before .before in let a = s .args in
+    fillStores (w .narrow .result) (a .to - a .from) (p .page-at .result + a .from) ≡ newRun (frameOf (a .f) (a .words .now)) (a .words .now) (requestOf (a .q)) (entryOf (a .e)) (a .b) (a .new .0) (a .to - a .from) (a .from)
+same-stores p =
+    let w = p .before .before in
+    let o = w .before in
     let s = o .before .before .before .before .before in
     let a = s .args in
     let m = a .words .now in
     let F = frameOf (a .f) m in
     let n = a .to - a .from in
-    let at : p .page-at .result + a .from ≡ indexOf F (a .new .0) (a .from) = place F (a .new .0) (a .from) (p .page-at .result) (p .page-at .ensures .0) in
-    c .before .before .fill .ensures
-    ∙ ap (λ (k : ℕ). run (a .left) (fillStores (o .old-word .result) n k) m) at
-    ∙ ap (λ (ss : List Store). run (a .left) ss m)
-    (fill-run F m (requestOf (a .q)) (entryOf (a .e)) (a .b) (a .new .0) (o .old-word .result) n (a .from) (λ k lo hi. word-of o k lo (omega (arith, s .pre .2))))
+    ap (fillStores (w .narrow .result) n) (place F (a .new .0) (a .from) (p .page-at .result) (p .page-at .ensures .0))
+    ∙ fill-run F m (requestOf (a .q)) (entryOf (a .e)) (a .b) (a .new .0) (w .narrow .result) n (a .from) (λ k lo hi. w .narrow .ensures ∙ word-of o k lo (omega (arith, s .pre .2)))
+
+fill-requires : tie.Need-fill-requires
+fill-requires c κs =
+    let p = c .before in
+    let s = p .before .before .before .before .before .before .before .before in
+    let a = s .args in
+    let next : Ahead (a .words .now) (fillStores (p .before .before .narrow .result) (a .to - a .from) (p .page-at .result + a .from)) = ahead-of (sym (same-stores p)) (s .pre .9) in
+    search needs
+
+returns-2 : tie.Need-returns-2
+returns-2 c =
+    let p = c .before .before .before .before in
+    let a = p .before .before .before .before .before .before .before .before .args in
+    c .before .before .fill .ensures ∙ ap (λ (ss : List Store). run (a .left) ss (a .words .now)) (same-stores p)
 
 pub old-fill-spec : {M : Type 1} → statement M
 old-fill-spec =
@@ -83,6 +102,7 @@ old-fill-spec =
     same-length
     returns
     old-word-requires
+    narrow-requires
     page-at-requires
     add-at
     fill-requires

@@ -1,8 +1,9 @@
--- `entries::fresh::same_until` meets its contract: an entry without an L1 page says one word for its block, or one for each piece of 32 entries.
+-- `entries::fresh::same_until` meets its contract: an entry without an L1 page says one word for its block, or one for each piece of ROW entries.
 use mathlib.Core.Path.{_≡_}
 use Prim.Native.Nat.{_/_}
 use native.Mathlib.Omega.{arith}
 use borrow.Author.Needs.{needs}
+use Rattle.table.specs.Board.{ROW}
 use Rattle.entries.proofs.fresh.same_until.Statement.{statement}
 use Rattle.entries.proofs.fresh.same_until.Tie as tie
 
@@ -34,14 +35,14 @@ returns-2 : tie.Need-returns-2
 returns-2 c = (
   omega arith,
   omega arith,
-  λ F m k lo hi. let z : k / 32 ≡ c .before .before .before .args .i / 32 = omega arith in rw (c .before .enum-told2 .given .1, z),
+  λ F m k lo hi. let z : k / ROW ≡ c .before .before .before .args .i / ROW = omega arith in rw (c .before .enum-told2 .given .1, z),
 )
 
 returns-3 : tie.Need-returns-3
 returns-3 c = (
   omega arith,
   omega arith,
-  λ F m k lo hi. let z : k / 32 ≡ c .before .before .before .args .i / 32 = omega (arith, c .if1 .left) in rw (c .before .enum-told2 .given .1, z),
+  λ F m k lo hi. let z : k / ROW ≡ c .before .before .before .args .i / ROW = omega (arith, c .if1 .left) in rw (c .before .enum-told2 .given .1, z),
 )
 
 returns-4 : tie.Need-returns-4

@@ -1,13 +1,19 @@
-use mathlib.Core.Path.{sym, ap, _∙_}
-use mathlib.Core.List.{List}
+use mathlib.Core.Path.{_≡_, refl, sym, ap, _∙_}
+use mathlib.Core.List.{List, _++_}
+use Prim.Native.Nat.{ℕ, _-_}
+use lib.ListN.{length}
 use native.Mathlib.Omega.{arith}
+use Rattle.table.specs.Board.{WORDS, frameOf}
+use Rattle.entries.specs.Pages.{newRun}
 use Rattle.entries.proofs.NewPage.{run-same, run-parts}
+use Rattle.entries.proofs.Order.{ahead-of, Way, way-start, way-ahead, way-next, way-cut}
 use Rattle.entries.proofs.Places.{lent-same, good-same}
-use Rattle.entries.proofs.Runs.{went-whole, went-cut, first-cut, then-rest}
-use Rattle.entries.specs.Run.{run}
+use Rattle.entries.proofs.Runs.{went-whole, went-cut}
+use Rattle.entries.specs.Run.{out, run}
+use Rattle.entries.specs.declared.Budget.{Budget}
 use Rattle.range.specs.Kinds.{requestOf}
-use Rattle.model.specs.Stores.{Store}
-use Rattle.table.specs.Views.{entryOf}
+use Rattle.model.specs.Stores.{Store, newTable}
+use Rattle.types.specs.Views.{entryOf}
 use borrow.Author.Needs.{needs}
 use Rattle.entries.proofs.fresh.stores.Statement.{statement}
 use Rattle.entries.proofs.fresh.stores.Tie as tie
@@ -18,23 +24,69 @@ first-entry-requires c κs = search needs
 near-end-requires : tie.Need-near-end-requires
 near-end-requires c κs = search needs
 
+-- the stores of the entries from i on, as many as n; and of the whole page
+abbrev part : (n : tie.After-near-end) → ℕ → ℕ → List Store
+part n count i = let a = n .before .before .before .args in newRun (frameOf (a .f) (a .words .now)) (a .words .now) (requestOf (a .q)) (entryOf (a .e)) (a .b) (a .new .0) count i
+
+abbrev On : (n : tie.After-near-end) → Budget → List ℕ → List Store → Type 0
+On n more m rest = let a = n .before .before .before .args in Way (a .left) (a .words .now) (newTable (frameOf (a .f) (a .words .now)) (a .words .now) (requestOf (a .q)) (entryOf (a .e)) (a .b) (a .new .0)) more m rest
+
+abbrev from′ : tie.After-near-end → ℕ
+from′ n = n .before .first-entry .result
+
+abbrev to′ : tie.After-near-end → ℕ
+to′ n = n .near-end .result
+
+-- the same stores follow from the memory that stands
+same-part : (n : tie.After-near-end) (m : List ℕ) → let a = n .before .before .before .args in length m ≡ length (a .words .now) → (count i : ℕ)
+    → newRun (frameOf (a .f) m) m (requestOf (a .q)) (entryOf (a .e)) (a .b) (a .new .0) count i ≡ part n count i
+same-part n m len count i =
+    let s = n .before .before .before in
+    let a = s .args in
+    run-same (a .f) (requestOf (a .q)) (s .pre .1 .small) (entryOf (a .e)) (s .pre .4) (a .b) (a .new .0) (a .words .now) m len count i
+
+-- before the first part, the second and the third
+first : (n : tie.After-near-end) → let a = n .before .before .before .args in On n (a .left) (a .words .now) (part n (from′ n - 0) 0 ++ (part n (to′ n - from′ n) (from′ n) ++ part n (WORDS - to′ n) (to′ n)))
+first n =
+    let s = n .before .before .before in
+    let a = s .args in
+    way-start (run-parts (a .f) (requestOf (a .q)) (s .pre .1 .small) (entryOf (a .e)) (s .pre .4) (a .b) (a .new .0) (a .words .now) (from′ n) (to′ n) (n .near-end .ensures .0) (n .near-end .ensures .1)) (s .pre .5)
+
+second : (el : tie.Else1) → let oe = el .before .before .before .before in let n = oe .before .before in
+    On n (oe .old-entries .result .left) (oe .old-entries .last .1 .0) (part n (to′ n - from′ n) (from′ n) ++ part n (WORDS - to′ n) (to′ n))
+second el =
+    let oe = el .before .before .before .before in
+    let r = oe .old-entries in
+    way-next (first (oe .before .before)) _ _ refl (sym (went-whole (r .result) (r .last .1 .0) (el .if1 .left)) ∙ r .ensures)
+
+-- what the second part made, from the memory that the call found
+said : (ne : tie.After-new-entries) → let oe = ne .before .before .before .before .before .before .before in let n = oe .before .before in let t = ne .new-entries in
+    out (t .result .all) (t .result .left) (t .last .1 .0) ≡ run (oe .old-entries .result .left) (part n (to′ n - from′ n) (from′ n)) (oe .old-entries .last .1 .0)
+said ne =
+    let oe = ne .before .before .before .before .before .before .before in
+    let r = oe .old-entries in
+    ne .new-entries .ensures ∙ ap (λ (ss : List Store). run (r .result .left) ss (r .last .1 .0)) (same-part (oe .before .before) (r .last .1 .0) (r .kept .1 .0) _ _)
+
+third : (el2 : tie.Else2) → let ne = el2 .before .before .before .before in let n = ne .before .before .before .before .before .before .before .before .before in
+    On n (ne .new-entries .result .left) (ne .new-entries .last .1 .0) (part n (WORDS - to′ n) (to′ n))
+third el2 =
+    let ne = el2 .before .before .before .before in
+    let t = ne .new-entries in
+    way-next (second (ne .before .before .before)) _ _ refl (sym (went-whole (t .result) (t .last .1 .0) (el2 .if2 .left)) ∙ said ne)
+
 old-entries-requires : tie.Need-old-entries-requires
 old-entries-requires c κs = let fe = c .before .before in
     let s = fe .before .before in
-    (s .pre .0, fe .first-entry .ensures .0, omega arith, s .pre .1, s .pre .2, s .pre .3, s .pre .4, λ k lo hi. fe .first-entry .ensures .1 k (omega arith) (omega arith))
+    (s .pre .0, fe .first-entry .ensures .0, omega arith, s .pre .1, s .pre .2, s .pre .3, s .pre .4, λ k lo hi. fe .first-entry .ensures .1 k (omega arith) (omega arith), way-ahead (first (c .before)) _ _ refl)
 
 same-length : tie.Need-same-length
 same-length c = search needs
 
 returns : tie.Need-returns
 returns c = let oe = c .before .before .before .before in
-    let n = oe .before .before in
-    let fe = n .before in
-    let s = fe .before .before in
-    let a = s .args in
     let r = oe .old-entries in
-    first-cut (a .left) _ (a .words .now) _ (r .ensures) (went-cut (r .result) (r .last .1 .0) (c .if1 .taken)) _
-    ∙ ap (λ (ss : List Store). run (a .left) ss (a .words .now)) (sym (run-parts (a .f) (requestOf (a .q)) (s .pre .1 .small) (entryOf (a .e)) (s .pre .4) (a .b) (a .new .0) (a .words .now) (fe .first-entry .result) (n .near-end .result) (n .near-end .ensures .0) (n .near-end .ensures .1)))
+    let z = went-cut (r .result) (r .last .1 .0) (c .if1 .taken) in
+    z ∙ way-cut (first (oe .before .before)) _ _ refl (sym z ∙ r .ensures)
 
 new-entries-requires : tie.Need-new-entries-requires
 new-entries-requires c κs = let oe = c .before .before .before .before .before .before in
@@ -49,6 +101,7 @@ new-entries-requires c κs = let oe = c .before .before .before .before .before 
       good-same (a .f) (a .words .now) (r .last .1 .0) (r .kept .1 .0) (entryOf (a .e)) (s .pre .4) (s .pre .2),
       lent-same (a .f) (a .words .now) (r .last .1 .0) (r .kept .1 .0) (a .new .0) (s .pre .3),
       s .pre .4,
+      ahead-of (sym (same-part n (r .last .1 .0) (r .kept .1 .0) _ _)) (way-ahead (second (c .before .before)) _ _ refl),
     )
 
 same-length-2 : tie.Need-same-length-2
@@ -56,24 +109,13 @@ same-length-2 c = search needs
 
 returns-2 : tie.Need-returns-2
 returns-2 c = let ne = c .before .before .before .before in
-    let el = ne .before .before .before in
-    let oe = el .before .before .before .before in
-    let n = oe .before .before in
-    let fe = n .before in
-    let s = fe .before .before in
-    let a = s .args in
-    let r = oe .old-entries in
     let t = ne .new-entries in
-    then-rest (a .left) _ (a .words .now) (r .result .left) (r .last .1 .0) _ _ (r .ensures) (went-whole (r .result) (r .last .1 .0) (el .if1 .left)) _
-    (first-cut (r .result .left) _ (r .last .1 .0) _
-    (t .ensures ∙ ap (λ (ss : List Store). run (r .result .left) ss (r .last .1 .0)) (run-same (a .f) (requestOf (a .q)) (s .pre .1 .small) (entryOf (a .e)) (s .pre .4) (a .b) (a .new .0) (a .words .now) (r .last .1 .0) (r .kept .1 .0) _ _))
-    (went-cut (t .result) (t .last .1 .0) (c .if2 .taken)) _)
-    ∙ ap (λ (ss : List Store). run (a .left) ss (a .words .now)) (sym (run-parts (a .f) (requestOf (a .q)) (s .pre .1 .small) (entryOf (a .e)) (s .pre .4) (a .b) (a .new .0) (a .words .now) (fe .first-entry .result) (n .near-end .result) (n .near-end .ensures .0) (n .near-end .ensures .1)))
+    let z = went-cut (t .result) (t .last .1 .0) (c .if2 .taken) in
+    z ∙ way-cut (second (ne .before .before .before)) _ _ refl (sym z ∙ said ne)
 
 old-entries-requires-2 : tie.Need-old-entries-requires-2
 old-entries-requires-2 c κs = let ne = c .before .before .before .before .before .before in
-    let el = ne .before .before .before in
-    let oe = el .before .before .before .before in
+    let oe = ne .before .before .before .before .before .before .before in
     let n = oe .before .before in
     let s = n .before .before .before in
     let a = s .args in
@@ -87,6 +129,7 @@ old-entries-requires-2 c κs = let ne = c .before .before .before .before .befor
       lent-same (a .f) (a .words .now) (t .last .1 .0) (t .kept .1 .0 ∙ r .kept .1 .0) (a .new .0) (s .pre .3),
       s .pre .4,
       λ k lo hi. n .near-end .ensures .2 k (omega arith) (omega (arith, n .near-end .ensures .1)),
+      ahead-of (sym (same-part n (t .last .1 .0) (t .kept .1 .0 ∙ r .kept .1 .0) _ _)) (third (c .before .before) .next),
     )
 
 same-length-3 : tie.Need-same-length-3
@@ -96,20 +139,11 @@ returns-3 : tie.Need-returns-3
 returns-3 c = let u = c .before .before .old-entries2 in
     let el2 = c .before .before .before .before .before in
     let ne = el2 .before .before .before .before in
-    let el = ne .before .before .before in
-    let oe = el .before .before .before .before in
-    let n = oe .before .before in
-    let fe = n .before in
-    let s = fe .before .before in
-    let a = s .args in
-    let r = oe .old-entries in
+    let oe = ne .before .before .before .before .before .before .before in
     let t = ne .new-entries in
-    then-rest (a .left) _ (a .words .now) (r .result .left) (r .last .1 .0) _ _ (r .ensures) (went-whole (r .result) (r .last .1 .0) (el .if1 .left)) _
-    (then-rest (r .result .left) _ (r .last .1 .0) (t .result .left) (t .last .1 .0) _ _
-    (t .ensures ∙ ap (λ (ss : List Store). run (r .result .left) ss (r .last .1 .0)) (run-same (a .f) (requestOf (a .q)) (s .pre .1 .small) (entryOf (a .e)) (s .pre .4) (a .b) (a .new .0) (a .words .now) (r .last .1 .0) (r .kept .1 .0) _ _))
-    (went-whole (t .result) (t .last .1 .0) (el2 .if2 .left)) _
-    (u .ensures ∙ ap (λ (ss : List Store). run (t .result .left) ss (t .last .1 .0)) (run-same (a .f) (requestOf (a .q)) (s .pre .1 .small) (entryOf (a .e)) (s .pre .4) (a .b) (a .new .0) (a .words .now) (t .last .1 .0) (t .kept .1 .0 ∙ r .kept .1 .0) _ _)))
-    ∙ ap (λ (ss : List Store). run (a .left) ss (a .words .now)) (sym (run-parts (a .f) (requestOf (a .q)) (s .pre .1 .small) (entryOf (a .e)) (s .pre .4) (a .b) (a .new .0) (a .words .now) (fe .first-entry .result) (n .near-end .result) (n .near-end .ensures .0) (n .near-end .ensures .1)))
+    u .ensures
+    ∙ ap (λ (ss : List Store). run (t .result .left) ss (t .last .1 .0)) (same-part (oe .before .before) (t .last .1 .0) (t .kept .1 .0 ∙ oe .old-entries .kept .1 .0) _ _)
+    ∙ sym (third el2 .same)
 
 pub stores-spec : {M : Type 1} → statement M
 stores-spec =

@@ -1,33 +1,53 @@
-use mathlib.Core.Path.{_≡_, ap, _∙_}
+use mathlib.Core.Path.{_≡_, refl, sym, ap, _∙_}
 use mathlib.Core.Bool.{true}
-use mathlib.Core.List.{[], _∷_}
+use mathlib.Core.List.{List, [], _∷_, _++_}
+use Prim.Native.Nat.{ℕ}
 use borrow.Author.Needs.{needs}
-use Rattle.entries.proofs.Places.{frame-same, lent-same, good-same}
-use Rattle.entries.proofs.Runs.{went-whole, went-cut, first-cut, then-rest}
+use Rattle.table.specs.Board.{board, frameOf}
+use Rattle.entries.proofs.Places.{frame-same, lent-same}
+use Rattle.entries.specs.Ahead.{Ahead}
+use Rattle.entries.proofs.Order.{ahead-of, Way, way-start, way-ahead, way-next, way-cut}
+use Rattle.entries.proofs.Runs.{went-whole, went-cut}
 use Rattle.entries.specs.Run.{run}
+use Rattle.entries.specs.declared.Budget.{Budget}
 use Rattle.range.specs.Kinds.{requestOf}
 use Rattle.model.specs.Entry.{table, encode}
 use Rattle.model.specs.Frame.{Frame, lent}
-use Rattle.model.specs.Layout.{rv64}
-use Rattle.model.specs.Stores.{storeL2, newTable, linkTable}
-use Rattle.table.specs.Views.{frameOf, entryOf}
-use Rattle.theory.specs.Rooted.{Good}
+use Rattle.model.specs.Stores.{Store, storeL2, newTable, linkTable}
+use Rattle.types.specs.Views.{entryOf}
 use Rattle.entries.proofs.link.link_table.Statement.{statement}
 use Rattle.entries.proofs.link.link_table.Tie as tie
 
+-- before the page, and before the link
+abbrev On : (s : tie.Start) → Budget → List ℕ → List Store → Type 0
+On s more m rest = let a = s .args in Way (a .left) (a .words .now) (linkTable (frameOf (a .f) (a .words .now)) (a .words .now) (requestOf (a .q)) (a .root .0) (entryOf (a .e)) (a .b) (a .new .0)) more m rest
+
+abbrev page : tie.Start → List Store
+page s = let a = s .args in newTable (frameOf (a .f) (a .words .now)) (a .words .now) (requestOf (a .q)) (entryOf (a .e)) (a .b) (a .new .0)
+
+abbrev link : tie.Start → List Store
+link s = let a = s .args in storeL2 (frameOf (a .f) (a .words .now)) (a .root .0) (a .b) (encode board (table (a .new .0))) ∷ []
+
+first : (s : tie.Start) → On s (s .args .left) (s .args .words .now) (page s ++ link s)
+unfolding linkTable
+first s = way-start refl (s .pre .7)
+
+then : (el : tie.Else1) → let r = el .before .before .before .before .stores in On (el .before .before .before .before .before .before .before) (r .result .left) (r .last .1 .0) (link (el .before .before .before .before .before .before .before))
+then el =
+    let r = el .before .before .before .before .stores in
+    way-next (first (el .before .before .before .before .before .before .before)) _ _ refl (sym (went-whole (r .result) (r .last .1 .0) (el .if1 .left)) ∙ r .ensures)
+
 stores-requires : tie.Need-stores-requires
-stores-requires c κs = search needs
+stores-requires c κs = let next : Ahead (c .before .before .args .words .now) (page (c .before .before)) = way-ahead (first (c .before .before)) _ _ refl in search needs
 
 same-length : tie.Need-same-length
 same-length c = search needs
 
 returns : tie.Need-returns
-unfolding linkTable
 returns c =
-    let a = c .before .before .before .before .before .before .before .args in
     let r = c .before .before .before .before .stores in
-    first-cut (a .left) (newTable (frameOf (a .f) (a .words .now)) (a .words .now) (requestOf (a .q)) (entryOf (a .e)) (a .b) (a .new .0)) (a .words .now) _ (r .ensures)
-    (went-cut (r .result) (r .last .1 .0) (c .if1 .taken)) _
+    let z = went-cut (r .result) (r .last .1 .0) (c .if1 .taken) in
+    z ∙ way-cut (first (c .before .before .before .before .before .before .before)) _ _ refl (sym z ∙ r .ensures)
 
 -- what either call asks holds still after the other
 stores-requires-2 : tie.Need-stores-requires-2
@@ -36,23 +56,21 @@ stores-requires-2 c κs =
     let a = s .args in
     let r = c .before .before .before .before .before .before .stores in
     let root : lent (frameOf (a .f) (r .last .1 .0)) (a .root .0) ≡ true = lent-same (a .f) (a .words .now) (r .last .1 .0) (r .kept .1 .0) (a .root .0) (s .pre .5) in
-    let new : lent (frameOf (a .f) (r .last .1 .0)) (a .new .0) ≡ true = lent-same (a .f) (a .words .now) (r .last .1 .0) (r .kept .1 .0) (a .new .0) (s .pre .3) in
-    let good : Good (frameOf (a .f) (r .last .1 .0)) (r .last .1 .0) (entryOf (a .e)) = good-same (a .f) (a .words .now) (r .last .1 .0) (r .kept .1 .0) (entryOf (a .e)) (s .pre .4) (s .pre .2) in
+    let next : Ahead (r .last .1 .0) (storeL2 (frameOf (a .f) (r .last .1 .0)) (a .root .0) (a .b) (encode board (table (a .new .0))) ∷ [])
+    = ahead-of (ap (λ (X : Frame). storeL2 X (a .root .0) (a .b) (encode board (table (a .new .0))) ∷ []) (frame-same (a .f) (a .words .now) (r .last .1 .0) (sym (r .kept .1 .0)))) (then (c .before .before) .next) in
     search needs
 
 same-length-2 : tie.Need-same-length-2
 same-length-2 c = search needs
 
 returns-2 : tie.Need-returns-2
-unfolding linkTable
 returns-2 c =
-    let s = c .before .before .before .before .before .before .before .before .before .before .before .before in
-    let a = s .args in
-    let r = c .before .before .before .before .before .before .before .before .before .stores in
-    let l = c .before .before .stores2 in
-    then-rest (a .left) (newTable (frameOf (a .f) (a .words .now)) (a .words .now) (requestOf (a .q)) (entryOf (a .e)) (a .b) (a .new .0)) (a .words .now) (r .result .left) (r .last .1 .0) _ _ (r .ensures)
-    (went-whole (r .result) (r .last .1 .0) (c .before .before .before .before .before .if1 .left)) _
-    (l .ensures ∙ ap (λ (X : Frame). run (r .result .left) (storeL2 X (a .root .0) (a .b) (encode rv64 (table (a .new .0))) ∷ []) (r .last .1 .0)) (frame-same (a .f) (r .last .1 .0) (a .words .now) (r .kept .1 .0)))
+    let el = c .before .before .before .before .before in
+    let a = el .before .before .before .before .before .before .before .args in
+    let r = el .before .before .before .before .stores in
+    c .before .before .stores2 .ensures
+    ∙ ap (λ (X : Frame). run (r .result .left) (storeL2 X (a .root .0) (a .b) (encode board (table (a .new .0))) ∷ []) (r .last .1 .0)) (frame-same (a .f) (r .last .1 .0) (a .words .now) (r .kept .1 .0))
+    ∙ sym (then el .same)
 
 pub link-table-spec : {M : Type 1} → statement M
 link-table-spec =

@@ -1,6 +1,7 @@
+use mathlib.Core.Path.{_∙_}
 use borrow.Author.Needs.{needs}
-use Rattle.entries.proofs.Places.{stored-if}
-use Rattle.table.specs.Views.{frameOf}
+use Rattle.table.specs.Board.{frameOf}
+use Rattle.entries.proofs.Places.{next-if, stored-if}
 use Rattle.entries.proofs.own.same_entry.Statement.{statement}
 use Rattle.entries.proofs.own.same_entry.Tie as tie
 
@@ -13,18 +14,24 @@ add-at c = search needs
 after-word-requires : tie.Need-after-word-requires
 after-word-requires c κs = search needs
 
+narrow-requires : tie.Need-narrow-requires
+narrow-requires c κs = search needs
+
 put-changed-requires : tie.Need-put-changed-requires
-put-changed-requires c κs = search needs
+put-changed-requires c κs =
+    let s = c .before .before .before .before .before .before .before in
+    let a = s .args in
+    (search needs, next-if (frameOf (a .f) (a .words .now)) (a .t .0) (a .i) _ (c .before .before .before .before .page-at .ensures .0) (a .words .now) (c .before .narrow .ensures ∙ c .before .before .after-word .ensures .0) (s .pre .4))
 
 same-length : tie.Need-same-length
 same-length c = search needs
 
 returns : tie.Need-returns
 returns c =
-    let a = c .before .before .before .before .before .before .before .before .before .args in
-    stored-if (frameOf (a .f) (a .words .now)) (a .t .0) (a .i) _ (c .before .before .before .before .before .before .page-at .ensures .0) (a .left) (a .words .now) (c .before .before .before .before .after-word .ensures) (c .before .before .put-changed .ensures)
+    let a = c .before .before .before .before .before .before .before .before .before .before .args in
+    stored-if (frameOf (a .f) (a .words .now)) (a .t .0) (a .i) _ (c .before .before .before .before .before .before .before .page-at .ensures .0) (a .left) (a .words .now) (c .before .before .before .before .narrow .ensures ∙ c .before .before .before .before .before .after-word .ensures .0) (c .before .before .put-changed .ensures)
 
 pub same-entry-spec : {M : Type 1} → statement M
 same-entry-spec =
     tie.close
-    (tie.spec page-at-requires add-at after-word-requires put-changed-requires same-length returns)
+    (tie.spec page-at-requires add-at after-word-requires narrow-requires put-changed-requires same-length returns)

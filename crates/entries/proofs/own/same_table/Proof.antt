@@ -3,7 +3,7 @@ use Prim.Native.Nat.{_-_}
 use native.Mathlib.Omega.{arith}
 use borrow.Author.Needs.{needs}
 use Rattle.model.specs.Frame.{Frame}
-use Rattle.entries.proofs.OwnPage.{Same, same-start, same-next, same-cut, same-end}
+use Rattle.entries.proofs.OwnPage.{Same, same-start, same-ahead, same-next, same-cut, same-end}
 use Rattle.entries.proofs.Places.{frame-same}
 use Rattle.entries.proofs.Runs.{went-whole, went-cut}
 use Rattle.range.specs.Kinds.{requestOf}
@@ -28,7 +28,7 @@ loop-holds : tie.Need-loop-holds Inv-loop μ-loop
 loop-holds c =
     let s = c .before .before .before in
     let r = c .before .first-entry in
-    same-start _ _ _ _ _ _ (s .pre .1 .small) (s .pre .2) (λ j. omega (arith, c .before .before .slice-known .given j)) _ (r .ensures .0) (r .ensures .1)
+    same-start _ _ _ _ _ _ (s .pre .1 .small) (s .pre .2) (λ j. omega (arith, c .before .before .slice-known .given j)) _ (r .ensures .0) (r .ensures .1) (s .pre .3)
 
 same-entry-requires : tie.Need-same-entry-requires Inv-loop μ-loop
 same-entry-requires c κs =
@@ -38,6 +38,7 @@ same-entry-requires c κs =
       omega (arith, l .before .past-entry .ensures .0),
       s .pre .1,
       subst (λ (X : Frame). Good X (l .loop .words) (table (s .args .t .0))) (sym (frame-same (s .args .f) (l .loop .words) (s .args .words .now) (l .loop .inv .size))) (l .loop .inv .good),
+      same-ahead _ _ _ _ _ _ (s .pre .1 .small) (l .loop .words) (l .loop .more) (l .loop .i) (l .loop .inv) (omega (arith, l .before .past-entry .ensures .0, c .before .loop-test .taken)),
     )
 
 same-length : tie.Need-same-length Inv-loop μ-loop

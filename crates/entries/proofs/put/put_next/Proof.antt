@@ -1,6 +1,7 @@
 use mathlib.Core.Path.{sym, ap, _∙_}
 use Prim.Native.Nat.{_-_}
 use native.Mathlib.Omega.{arith}
+use Rattle.entries.proofs.Order.{turned}
 use Rattle.entries.proofs.Runs.{run-one}
 use Rattle.entries.specs.Run.{whole}
 use Rattle.table.specs.Stored.{storeOf}
@@ -19,8 +20,12 @@ same-length c = search needs
 
 returns : tie.Need-returns
 returns c =
-    let a = c .before .before .before .before .before .args in
-    ap (whole (record { more = a .left .more - 1; last = a .at })) (c .before .before .store-word .ensures .sets) ∙ sym (run-one (a .left) (storeOf (a .at) (a .word)) (a .words .now) (omega arith))
+    let s = c .before .before .before .before .before in
+    let a = s .args in
+    let sets = c .before .before .store-word .ensures in (
+      ap (whole (record { more = a .left .more - 1; last = a .at })) sets ∙ sym (run-one (a .left) (storeOf (a .at) (a .word)) (a .words .now) (omega arith)),
+      turned (storeOf (a .at) (a .word)) (s .pre .2) sets,
+    )
 
 pub put-next-spec : {M : Type 1} → statement M
 put-next-spec = tie.close (tie.spec store-word-requires sub-t9 same-length returns)

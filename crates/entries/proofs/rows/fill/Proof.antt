@@ -1,7 +1,10 @@
 use mathlib.Core.Path.{_≡_, ap, _∙_}
+use mathlib.Core.List.{[], _∷_}
 use Prim.Native.Nat.{ℕ, _-_, _≤_}
 use native.Mathlib.Omega.{arith}
+use Rattle.entries.proofs.Order.{ahead-joined}
 use Rattle.entries.proofs.RowLaws.{Filled, fill-start, fill-next}
+use Rattle.table.specs.Stored.{storeOf}
 use Rattle.entries.specs.Run.{run}
 use Rattle.entries.specs.Rows.{fillStores}
 use Rattle.entries.proofs.rows.fill.Statement.{statement}
@@ -20,7 +23,13 @@ add-put-next : tie.Need-add-put-next Inv-loop μ-loop
 add-put-next c = let l = c .before .before in omega (arith, l .before .before .pre .0, l .loop .inv .1 .size)
 
 put-next-requires : tie.Need-put-next-requires Inv-loop μ-loop
-put-next-requires c κs = let l = c .before .before in (omega (arith, l .before .before .pre .0, l .loop .inv .1 .size), omega (arith, l .before .before .pre .1, l .loop .inv .1 .count))
+put-next-requires c κs =
+    let l = c .before .before in
+    let s = l .before .before in (
+      omega (arith, s .pre .0, l .loop .inv .1 .size),
+      omega (arith, s .pre .1, l .loop .inv .1 .count),
+      ahead-joined (s .args .left) (λ k. storeOf k (s .args .word) ∷ []) (s .args .n) (s .args .at) (l .loop .i) (c .before .loop-test .taken) (s .pre .2) (l .loop .inv .1 .done),
+    )
 
 add-i : tie.Need-add-i Inv-loop μ-loop
 add-i c = omega (arith, c .before .before .before .before .loop-test .taken)
@@ -32,7 +41,7 @@ loop-again : tie.Need-loop-again Inv-loop μ-loop
 loop-again c =
     let l = c .before .before .before .before .before in
     let r = c .before .before .put-next in
-    (omega (arith, c .before .before .before .before .loop-test .taken), fill-next _ _ _ _ (l .loop .words) (l .loop .rest) (l .loop .i) (l .loop .inv .1) _ _ (r .ensures))
+    (omega (arith, c .before .before .before .before .loop-test .taken), fill-next _ _ _ _ (l .loop .words) (l .loop .rest) (l .loop .i) (l .loop .inv .1) _ _ (r .ensures .0))
 
 same-length : tie.Need-same-length Inv-loop μ-loop
 same-length c = c .before .loop .inv .1 .size

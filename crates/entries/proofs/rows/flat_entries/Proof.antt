@@ -7,7 +7,9 @@ use borrow.Author.Tests.{not-false}
 use borrow.Author.Needs.{needs}
 use Rattle.model.specs.Stores.{Store}
 use Rattle.entries.specs.Run.{run}
-use Rattle.entries.specs.Rows.{rowStores}
+use Rattle.entries.specs.Ahead.{Ahead}
+use Rattle.entries.specs.Rows.{rowStores, fillStores}
+use Rattle.entries.proofs.Order.{ahead-of}
 use Rattle.entries.proofs.RowLaws.{row-fills}
 use Rattle.entries.proofs.rows.flat_entries.Statement.{statement}
 use Rattle.entries.proofs.rows.flat_entries.Tie as tie
@@ -43,7 +45,15 @@ returns-3 : tie.Need-returns-3
 returns-3 c = search needs
 
 fill-requires : tie.Need-fill-requires
-fill-requires c κs = search needs
+fill-requires c κs =
+    let e = c .before in
+    let s = e .before .before .before .before .before .before .before in
+    let a = s .args in
+    let m = a .words .now in
+    let z : a .n ≡ 32 = omega arith in
+    let next : Ahead m (fillStores (a .word) 32 (a .at))
+    = ahead-of (ap (λ (n : ℕ). rowStores m (λ w. a .word) n (a .at)) z ∙ row-fills m (a .word) 32 (a .at) (sym (e .before .all-differ .ensures) ∙ not-false _ (e .if3 .left))) (s .pre .1) in
+    search needs
 
 same-length-4 : tie.Need-same-length-4
 same-length-4 c = search needs

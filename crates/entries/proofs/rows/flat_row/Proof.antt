@@ -1,7 +1,7 @@
 use mathlib.Core.Path.{_≡_, refl, ap, _∙_}
 use Prim.Native.Nat.{ℕ, _-_, _≤_}
 use native.Mathlib.Omega.{arith}
-use Rattle.entries.proofs.RowLaws.{InRow, row-start, row-next, row-cut}
+use Rattle.entries.proofs.RowLaws.{InRow, row-start, row-ahead, row-next, row-cut}
 use Rattle.entries.proofs.Runs.{went-whole, went-cut}
 use Rattle.entries.specs.Run.{run}
 use Rattle.entries.specs.Rows.{rowStores}
@@ -18,10 +18,15 @@ loop-holds : tie.Need-loop-holds Inv-loop μ-loop
 loop-holds c = (omega arith, row-start _ _ _ _)
 
 add-put-changed : tie.Need-add-put-changed Inv-loop μ-loop
-add-put-changed c = let l = c .before .before in omega (arith, l .before .before .pre, l .loop .inv .1 .size)
+add-put-changed c = let l = c .before .before in omega (arith, l .before .before .pre .0, l .loop .inv .1 .size)
 
 put-changed-requires : tie.Need-put-changed-requires Inv-loop μ-loop
-put-changed-requires c κs = let l = c .before .before in omega (arith, l .before .before .pre, l .loop .inv .1 .size)
+put-changed-requires c κs =
+    let l = c .before .before in
+    let s = l .before .before in (
+      omega (arith, s .pre .0, l .loop .inv .1 .size),
+      row-ahead _ _ _ _ (l .loop .words) (l .loop .more) (l .loop .i) (l .loop .inv .1) _ refl (s .args .n) (c .before .loop-test .taken) (s .pre .1),
+    )
 
 same-length : tie.Need-same-length Inv-loop μ-loop
 same-length c = c .before .before .before .before .put-changed .kept .0 ∙ c .before .before .before .before .before .before .before .loop .inv .1 .size

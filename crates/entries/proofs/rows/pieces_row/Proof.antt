@@ -2,7 +2,7 @@ use mathlib.Core.Path.{_≡_, sym, ap, _∙_}
 use Prim.Native.Nat.{ℕ, _+_, _-_, _≤_, _<_}
 use native.Mathlib.Omega.{arith}
 use lib.ListN.{getD}
-use Rattle.entries.proofs.RowLaws.{InRow, row-start, row-next, row-said, one-more}
+use Rattle.entries.proofs.RowLaws.{InRow, row-start, row-ahead, row-next, row-said, one-more}
 use Rattle.entries.proofs.Runs.{went-whole, went-cut}
 use Rattle.entries.specs.Run.{run}
 use Rattle.entries.specs.Rows.{rowStores, piecesWord}
@@ -22,15 +22,15 @@ loop-holds c = (omega arith, row-start _ _ _ _, λ k lo hi. absurd (omega arith)
 
 -- src/rows.rt:54:38
 add-pieces-word : tie.Need-add-pieces-word Inv-loop μ-loop
-add-pieces-word c = let l = c .before in omega (arith, l .before .before .pre, l .loop .inv .1 .size)
+add-pieces-word c = let l = c .before in omega (arith, l .before .before .pre .0, l .loop .inv .1 .size)
 
 -- src/rows.rt:54:32
 mul-pieces-word : tie.Need-mul-pieces-word Inv-loop μ-loop
-mul-pieces-word c = let l = c .before in omega (arith, l .before .before .pre, l .loop .inv .1 .size)
+mul-pieces-word c = let l = c .before in omega (arith, l .before .before .pre .0, l .loop .inv .1 .size)
 
 -- src/rows.rt:54:32
 slice-read-pieces-word : tie.Need-slice-read-pieces-word Inv-loop μ-loop
-slice-read-pieces-word c = let l = c .before .before in omega (arith, l .before .before .pre, l .loop .inv .1 .size)
+slice-read-pieces-word c = let l = c .before .before in omega (arith, l .before .before .pre .0, l .loop .inv .1 .size)
 
 -- src/rows.rt:54:13
 pieces-word-requires : tie.Need-pieces-word-requires Inv-loop μ-loop
@@ -46,11 +46,20 @@ returns c = let l = c .before .before .before .before in (l .loop .inv .0, l .lo
 
 -- src/rows.rt:62:45
 add-put-changed : tie.Need-add-put-changed Inv-loop μ-loop
-add-put-changed c = let l = c .before .before .before .before .before in omega (arith, l .before .before .pre, l .loop .inv .1 .size)
+add-put-changed c = let l = c .before .before .before .before .before in omega (arith, l .before .before .pre .0, l .loop .inv .1 .size)
 
 -- src/rows.rt:62:13
 put-changed-requires : tie.Need-put-changed-requires Inv-loop μ-loop
-put-changed-requires c κs = let l = c .before .before .before .before .before in omega (arith, l .before .before .pre, l .loop .inv .1 .size)
+put-changed-requires c κs =
+    let l = c .before .before .before .before .before in
+    let s = l .before .before in
+    let w = c .before .before .pieces-word in
+    let less = c .before .before .before .before .loop-test .taken in (
+      omega (arith, s .pre .0, l .loop .inv .1 .size),
+      row-ahead _ _ _ _ (l .loop .words) (l .loop .more) (l .loop .i) (l .loop .inv .1) _ (w .ensures) (l .loop .i + 1) (omega arith)
+          (s .pre .1 (l .loop .i + 1) (omega (arith, less))
+          (one-more (λ k. piecesWord (getD (s .args .words .now) k 0) ≡ 0 → ⊥) _ _ (l .loop .inv .2) (λ z. c .before .if1 .left (w .ensures ∙ ap piecesWord (l .loop .inv .1 .ahead _ (omega arith)) ∙ z)))),
+    )
 
 -- src/rows.rt:68:24
 add-t17 : tie.Need-add-t17 Inv-loop μ-loop

@@ -1,80 +1,21 @@
-use mathlib.Core.Path.{sym, ap, _∙_, subst}
-use Prim.Native.Nat.{_<_, _^_}
-use native.Mathlib.Omega.{arith}
-use Rattle.entries.specs.Rows.{piecesOf}
-use Rattle.table.specs.Bounds.{Small}
-use Rattle.table.specs.Views.{entryOf}
+-- `entries::rows::pieces_word` meets its contract: the same as a number, which fits a word.
+use mathlib.Core.Path.{ap, _∙_}
 use borrow.Author.Needs.{needs}
+use Rattle.entries.specs.Rows.{piecesWord}
 use Rattle.entries.proofs.rows.pieces_word.Statement.{statement}
 use Rattle.entries.proofs.rows.pieces_word.Tie as tie
 
-flat-small : (c : tie.After-p) → c .p .given .0 .0 < 4
-flat-small c = subst Small (ap entryOf (c .p .given .1)) (c .before .before .decode .ensures .1)
+wide-requires : tie.Need-wide-requires
+wide-requires c κs = search needs
 
-pieces-small : (c : tie.After-info) → c .info .given .0 .0 < 2 ^ 32
-pieces-small c = subst Small (ap entryOf (c .info .given .1)) (c .before .before .decode .ensures .1)
+pieces-number-requires : tie.Need-pieces-number-requires
+pieces-number-requires c κs = search needs
 
--- src/rows.rt:38:11
-decode-requires : tie.Need-decode-requires
-decode-requires c κs = search needs
+narrow-requires : tie.Need-narrow-requires
+narrow-requires c κs = search needs
 
--- src/rows.rt:39:21
-enum-known-p : tie.Need-enum-known-p
-enum-known-p c = search needs
-
--- src/rows.rt:39:46
-mul-result : tie.Need-mul-result
-mul-result c = record { fits = omega (arith, flat-small (c .before)) }
-
--- src/rows.rt:39:27
-add-result : tie.Need-add-result
-add-result c = record { fits = omega (arith, flat-small (c .before)) }
-
--- src/rows.rt:40:23
-enum-known-info : tie.Need-enum-known-info
-enum-known-info c = search needs
-
--- src/rows.rt:40:32
-add-result-2 : tie.Need-add-result-2
-add-result-2 c = record { fits = omega (arith, pieces-small (c .before)) }
-
--- src/rows.rt:41:28
-enum-told : tie.Need-enum-told
-enum-told c = search needs
-
--- src/rows.rt:42:27
-enum-told-2 : tie.Need-enum-told-2
-enum-told-2 c = search needs
-
--- src/rows.rt:35:1
 returns : tie.Need-returns
-returns c = ap piecesOf (sym (ap entryOf (c .before .p .given .1)) ∙ c .before .before .before .decode .ensures .0)
-
--- src/rows.rt:35:1
-returns-2 : tie.Need-returns-2
-returns-2 c = ap piecesOf (sym (ap entryOf (c .before .info .given .1)) ∙ c .before .before .before .decode .ensures .0)
-
--- src/rows.rt:35:1
-returns-3 : tie.Need-returns-3
-returns-3 c = ap piecesOf (sym (ap entryOf (c .enum-told .given .1)) ∙ c .before .before .decode .ensures .0)
-
--- src/rows.rt:35:1
-returns-4 : tie.Need-returns-4
-returns-4 c = ap piecesOf (sym (ap entryOf (c .enum-told2 .given .1)) ∙ c .before .before .decode .ensures .0)
+returns c = c .narrow .ensures ∙ c .before .pieces-number .ensures .0 ∙ ap piecesWord (c .before .before .wide .ensures .0)
 
 pub pieces-word-spec : {M : Type 1} → statement M
-pieces-word-spec =
-    tie.close
-    (tie.spec
-    decode-requires
-    enum-known-p
-    mul-result
-    add-result
-    enum-known-info
-    add-result-2
-    enum-told
-    enum-told-2
-    returns
-    returns-2
-    returns-3
-    returns-4)
+pieces-word-spec = tie.close (tie.spec wide-requires pieces-number-requires narrow-requires returns)

@@ -1,8 +1,8 @@
 use Prim.Native.Nat.{_/_, _<_}
 use native.Mathlib.Omega.{arith}
 use lib.ListN.{length}
+use Rattle.table.specs.Board.{WORDS, frameOf}
 use Rattle.forms.proofs.EvenLaws.{even-flat, even-pieces}
-use Rattle.table.specs.Views.{frameOf}
 use borrow.Author.Needs.{needs}
 use Rattle.forms.proofs.blocks.across_form.Statement.{statement}
 use Rattle.forms.proofs.blocks.across_form.Tie as tie
@@ -28,7 +28,7 @@ even-form-requires-2 : tie.Need-even-form-requires-2
 even-form-requires-2 c κs =
     let s = c .before .before .before .before in
     let a = s .args in
-    (s .pre .0, s .pre .1, tt, omega arith, even-pieces (a .f .paw) (a .f .first .0) (length (a .words .now) / 512) (a .words .now) (c .before .e2 .given .0 .0) (a .b))
+    (s .pre .0, s .pre .1, tt, omega arith, even-pieces (a .f .paw) (a .f .first .0) (length (a .words .now) / WORDS) (a .words .now) (c .before .e2 .given .0 .0) (a .b))
 
 enum-told : tie.Need-enum-told
 enum-told c = search needs

@@ -3,16 +3,19 @@ use Prim.Native.Nat.{ℕ, _/_, _<_}
 use native.Mathlib.Omega.{arith}
 use borrow.Author.Needs.{needs}
 use lib.ListN.{length}
-use Rattle.forms.proofs.FormLaws.{form-flat, form-not, form-inside}
+use Rattle.table.specs.Board.{frameOf}
+use Rattle.shapes.proofs.FormLaws.{form-flat, form-not, form-inside}
+use Rattle.forms.proofs.BoardShape.{board-shape}
+use Rattle.model.specs.Numbers.{pack}
 use Rattle.range.specs.Kinds.{requestOf}
-use Rattle.table.specs.Views.{entryOf}
+use Rattle.types.specs.Views.{entryOf}
 use Rattle.forms.proofs.blocks.block_form.Statement.{statement}
 use Rattle.forms.proofs.blocks.block_form.Tie as tie
 
 returns : tie.Need-returns
 returns c =
     let a = c .before .before .args in
-    rw (c .if1 .taken) (form-flat (a .f .paw) (a .f .first .0) (length (a .words .now) / 512) (a .words .now) (requestOf (a .q)) (entryOf (a .e)) (a .b) (a .p))
+    rw (c .if1 .taken) (form-flat (frameOf (a .f) (a .words .now)) board-shape (a .words .now) (requestOf (a .q)) (entryOf (a .e)) (a .b) (a .p))
 
 mul-lies : tie.Need-mul-lies
 mul-lies c = omega arith
@@ -41,24 +44,25 @@ across-form-requires : tie.Need-across-form-requires
 across-form-requires c κs = search needs
 
 returns-2 : tie.Need-returns-2
+unfolding pack
 returns-2 c =
     let s = c .before .before .before .before .before .before in
     let a = s .args in
-    form-inside (a .f .paw) (a .f .first .0) (length (a .words .now) / 512) (a .words .now) (requestOf (a .q)) (s .pre .1 .small) (entryOf (a .e)) (s .pre .2) (a .b)
+    form-inside (frameOf (a .f) (a .words .now)) board-shape (a .words .now) (requestOf (a .q)) (s .pre .1 .small) (entryOf (a .e)) (s .pre .2) (a .b)
     (rw (c .before .enum-told .given .1) at (c .before .before .before .lies .ensures))
-    ∙ rw (c .before .before .before .before .if1 .left) (form-not (a .f .paw) (a .f .first .0) (length (a .words .now) / 512) (a .words .now) (requestOf (a .q)) (entryOf (a .e)) (a .b) (a .p))
+    ∙ rw (c .before .before .before .before .if1 .left) (form-not (frameOf (a .f) (a .words .now)) board-shape (a .words .now) (requestOf (a .q)) (entryOf (a .e)) (a .b) (a .p))
 
 returns-3 : tie.Need-returns-3
 returns-3 c =
     let a = c .before .before .before .before .before .before .args in
     c .outside-form .ensures
-    ∙ rw (c .before .before .before .before .if1 .left) (form-not (a .f .paw) (a .f .first .0) (length (a .words .now) / 512) (a .words .now) (requestOf (a .q)) (entryOf (a .e)) (a .b) (a .p))
+    ∙ rw (c .before .before .before .before .if1 .left) (form-not (frameOf (a .f) (a .words .now)) board-shape (a .words .now) (requestOf (a .q)) (entryOf (a .e)) (a .b) (a .p))
 
 returns-4 : tie.Need-returns-4
 returns-4 c =
     let a = c .before .before .before .before .before .before .args in
     c .across-form .ensures
-    ∙ rw (c .before .before .before .before .if1 .left) (form-not (a .f .paw) (a .f .first .0) (length (a .words .now) / 512) (a .words .now) (requestOf (a .q)) (entryOf (a .e)) (a .b) (a .p))
+    ∙ rw (c .before .before .before .before .if1 .left) (form-not (frameOf (a .f) (a .words .now)) board-shape (a .words .now) (requestOf (a .q)) (entryOf (a .e)) (a .b) (a .p))
 
 pub block-form-spec : {M : Type 1} → statement M
 block-form-spec =

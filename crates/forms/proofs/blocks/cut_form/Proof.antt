@@ -3,10 +3,11 @@ use Prim.Native.Nat.{_+_, _/_, _%_}
 use native.Mathlib.Omega.{arith}
 use borrow.Author.Tests.{not-true}
 use lib.ListN.{length}
+use Rattle.table.specs.Board.{WORDS, PIECES, PIECEBYTES, frameOf}
 use Rattle.forms.proofs.FormLaws.{isOne, form-table}
 use Rattle.forms.proofs.Fields.{every-fail}
 use Rattle.range.specs.Kinds.{requestOf}
-use Rattle.table.specs.Views.{frameOf, entryOf}
+use Rattle.types.specs.Views.{entryOf}
 use borrow.Author.Needs.{needs}
 use Rattle.forms.proofs.blocks.cut_form.Statement.{statement}
 use Rattle.forms.proofs.blocks.cut_form.Tie as tie
@@ -23,8 +24,8 @@ piece-is-one-requires c κs = search needs
 returns : tie.Need-returns
 returns c = let s = c .before .before .before .before in
     let a = s .args in
-    form-table (a .f .paw) (a .f .first .0) (length (a .words .now) / 512) (a .words .now) (requestOf (a .q)) (entryOf (a .e)) (a .b)
-    (every-fail (isOne (frameOf (a .f) (a .words .now)) (a .words .now) (requestOf (a .q)) (entryOf (a .e)) (a .b)) 16 (a .q .start .0 / 0x20_0000 % 16) (omega arith)
+    form-table (a .f .paw) (a .f .first .0) (length (a .words .now) / WORDS) (a .words .now) (requestOf (a .q)) (entryOf (a .e)) (a .b)
+    (every-fail (isOne (frameOf (a .f) (a .words .now)) (a .words .now) (requestOf (a .q)) (entryOf (a .e)) (a .b)) PIECES (a .q .start .0 / PIECEBYTES % PIECES) (omega arith)
     (sym (c .before .piece-is-one .ensures) ∙ not-true _ (c .if1 .taken)))
 
 -- src/blocks.rt:57:42
@@ -39,8 +40,8 @@ piece-is-one-requires-2 c κs = search needs
 returns-2 : tie.Need-returns-2
 returns-2 c = let s = c .before .before .before .before .before .before .before in
     let a = s .args in
-    form-table (a .f .paw) (a .f .first .0) (length (a .words .now) / 512) (a .words .now) (requestOf (a .q)) (entryOf (a .e)) (a .b)
-    (every-fail (isOne (frameOf (a .f) (a .words .now)) (a .words .now) (requestOf (a .q)) (entryOf (a .e)) (a .b)) 16 ((a .q .start .0 + a .q .size) / 0x20_0000 % 16) (omega arith)
+    form-table (a .f .paw) (a .f .first .0) (length (a .words .now) / WORDS) (a .words .now) (requestOf (a .q)) (entryOf (a .e)) (a .b)
+    (every-fail (isOne (frameOf (a .f) (a .words .now)) (a .words .now) (requestOf (a .q)) (entryOf (a .e)) (a .b)) PIECES ((a .q .start .0 + a .q .size) / PIECEBYTES % PIECES) (omega arith)
     (sym (c .before .piece-is-one2 .ensures) ∙ not-true _ (c .if2 .taken)))
 
 -- src/blocks.rt:60:5

@@ -3,9 +3,10 @@ use Prim.Native.Nat.{ℕ, _/_, _<_}
 use native.Mathlib.Omega.{arith}
 use borrow.Author.Needs.{needs}
 use lib.ListN.{length}
+use Rattle.table.specs.Board.{WORDS}
 use Rattle.forms.proofs.FormLaws.{form-flat-out, form-pieces-out}
 use Rattle.range.specs.Kinds.{requestOf}
-use Rattle.table.specs.Views.{entryOf}
+use Rattle.types.specs.Views.{entryOf}
 use Rattle.forms.proofs.blocks.outside_form.Statement.{statement}
 use Rattle.forms.proofs.blocks.outside_form.Tie as tie
 
@@ -37,13 +38,13 @@ returns : tie.Need-returns
 returns c =
     let s = c .before .before .before .before in
     let a = s .args in
-    form-flat-out (a .f .paw) (a .f .first .0) (length (a .words .now) / 512) (a .words .now) (requestOf (a .q)) (s .pre .1 .small) (entryOf (a .e)) (s .pre .2) (a .b) (s .pre .3) (c .before .e .given .0 .0) (ap entryOf (c .before .e .given .1))
+    form-flat-out (a .f .paw) (a .f .first .0) (length (a .words .now) / WORDS) (a .words .now) (requestOf (a .q)) (s .pre .1 .small) (entryOf (a .e)) (s .pre .2) (a .b) (s .pre .3) (c .before .e .given .0 .0) (ap entryOf (c .before .e .given .1))
 
 returns-2 : tie.Need-returns-2
 returns-2 c =
     let s = c .before .before .before .before .before in
     let a = s .args in
-    form-pieces-out (a .f .paw) (a .f .first .0) (length (a .words .now) / 512) (a .words .now) (requestOf (a .q)) (s .pre .1 .small) (entryOf (a .e)) (s .pre .2) (a .b) (s .pre .3) (c .before .before .e2 .given .0 .0) (ap entryOf (c .before .before .e2 .given .1)) (c .if1 .taken)
+    form-pieces-out (a .f .paw) (a .f .first .0) (length (a .words .now) / WORDS) (a .words .now) (requestOf (a .q)) (s .pre .1 .small) (entryOf (a .e)) (s .pre .2) (a .b) (s .pre .3) (c .before .before .e2 .given .0 .0) (ap entryOf (c .before .before .e2 .given .1)) (c .if1 .taken)
 
 returns-3 : tie.Need-returns-3
 returns-3 c = rw (c .before .before .before .e2 .given .1) (c .pieces-form .ensures)

@@ -2,8 +2,9 @@ use mathlib.Core.Path.{_≡_, ap, _∙_}
 use Prim.Native.Nat.{ℕ, _+_, _*_}
 use Rattle.range.specs.Kinds.{requestOf}
 use Rattle.model.specs.Forms.{allAre}
-use Rattle.table.specs.Views.{frameOf, entryOf}
+use Rattle.types.specs.Views.{entryOf}
 use borrow.Author.Needs.{needs}
+use Rattle.table.specs.Board.{PIECE, frameOf}
 use Rattle.forms.proofs.blocks.piece_is_one.Statement.{statement}
 use Rattle.forms.proofs.blocks.piece_is_one.Tie as tie
 use Rattle.forms.proofs.blocks.piece_is_one.Reads as reads
@@ -18,7 +19,7 @@ piece-at-requires c κs = search needs
 returns : tie.Need-returns
 returns c = let a = c .before .before .args in
     c .piece-at .ensures .1
-    ∙ ap (λ (p : ℕ). allAre (frameOf (a .f) (a .words .now)) (a .words .now) (requestOf (a .q)) (entryOf (a .e)) p 512 (a .b * 8192 + a .i * 512)) (c .piece-at .ensures .0)
+    ∙ ap (λ (p : ℕ). allAre (frameOf (a .f) (a .words .now)) (a .words .now) (requestOf (a .q)) (entryOf (a .e)) p PIECE (a .b * 8192 + a .i * PIECE)) (c .piece-at .ensures .0)
 
 pub piece-is-one-spec : {M : Type 1} → statement M
 piece-is-one-spec = tie.close (tie.spec piece-at-requires returns)

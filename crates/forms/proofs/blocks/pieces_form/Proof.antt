@@ -6,50 +6,51 @@ use native.Mathlib.Omega.{arith}
 use borrow.Author.Needs.{needs}
 use borrow.Author.Tests.{not-true, not-false}
 use lib.ListN.{length}
+use Rattle.table.specs.Board.{WORDS, PIECES, PIECE, INFO, frameOf}
 use Rattle.forms.proofs.FormLaws.{firstOf, isOne, form-pieces, form-table}
 use Rattle.forms.proofs.Fields.{horner, every-down, every-fail, pack4-fits}
 use Rattle.forms.proofs.EntryLaws.{after-small}
 use Rattle.range.specs.Kinds.{requestOf}
 use Rattle.model.specs.Forms.{allAre, wantPieces}
 use Rattle.model.specs.Numbers.{pack, every}
-use Rattle.table.specs.Views.{frameOf, entryOf}
+use Rattle.types.specs.Views.{entryOf}
 use Rattle.forms.proofs.blocks.pieces_form.Statement.{statement}
 use Rattle.forms.proofs.blocks.pieces_form.Tie as tie
 
 abbrev Inv-loop : tie.InvT-loop
 Inv-loop f words q e b info₀ j₀ info j =
-    (j ≤ 16)
-    × (info ≡ pack 4 (firstOf (frameOf f words) words (requestOf q) (entryOf e) b) j (16 - j))
-    × (every (isOne (frameOf f words) words (requestOf q) (entryOf e) b) j (16 - j) ≡ true)
+    (j ≤ PIECES)
+    × (info ≡ pack 4 (firstOf (frameOf f words) words (requestOf q) (entryOf e) b) j (PIECES - j))
+    × (every (isOne (frameOf f words) words (requestOf q) (entryOf e) b) j (PIECES - j) ≡ true)
 
 abbrev μ-loop : tie.MeasureT-loop
-μ-loop f words q e b info₀ j₀ info j = 16 - j
+μ-loop f words q e b info₀ j₀ info j = PIECES - j
 
 -- whether the turn's piece is of one permission
 turn-one : (c : tie.After-piece-at Inv-loop μ-loop) → let l = c .before .before in let a = l .before .before .args in
-    c .piece-at .result .one ≡ isOne (frameOf (a .f) (a .words .now)) (a .words .now) (requestOf (a .q)) (entryOf (a .e)) (a .b) (15 - l .loop .j)
+    c .piece-at .result .one ≡ isOne (frameOf (a .f) (a .words .now)) (a .words .now) (requestOf (a .q)) (entryOf (a .e)) (a .b) ((PIECES - 1) - l .loop .j)
 turn-one c =
     let l = c .before .before in
     let a = l .before .before .args in
     c .piece-at .ensures .1
-    ∙ ap (λ (p : ℕ). allAre (frameOf (a .f) (a .words .now)) (a .words .now) (requestOf (a .q)) (entryOf (a .e)) p 512 (a .b * 8192 + (15 - l .loop .j) * 512)) (c .piece-at .ensures .0)
+    ∙ ap (λ (p : ℕ). allAre (frameOf (a .f) (a .words .now)) (a .words .now) (requestOf (a .q)) (entryOf (a .e)) p PIECE (a .b * 8192 + ((PIECES - 1) - l .loop .j) * PIECE)) (c .piece-at .ensures .0)
 
 turn-info : (c : tie.Else1 Inv-loop μ-loop) → let l = c .before .before .before .before in let a = l .before .before .args in
-    c .before .before .piece-at .result .p + 4 * l .loop .info ≡ pack 4 (firstOf (frameOf (a .f) (a .words .now)) (a .words .now) (requestOf (a .q)) (entryOf (a .e)) (a .b)) (l .loop .j + 1) (16 - (l .loop .j + 1))
+    c .before .before .piece-at .result .p + 4 * l .loop .info ≡ pack 4 (firstOf (frameOf (a .f) (a .words .now)) (a .words .now) (requestOf (a .q)) (entryOf (a .e)) (a .b)) (l .loop .j + 1) (PIECES - (l .loop .j + 1))
 turn-info c =
     let l = c .before .before .before .before in
     let a = l .before .before .args in
-    horner 4 (firstOf (frameOf (a .f) (a .words .now)) (a .words .now) (requestOf (a .q)) (entryOf (a .e)) (a .b)) 16 0 (l .loop .j) (l .loop .info) (c .before .before .piece-at .result .p) (omega arith) (l .loop .inv .1) (c .before .before .piece-at .ensures .0 ∙ ap (firstOf (frameOf (a .f) (a .words .now)) (a .words .now) (requestOf (a .q)) (entryOf (a .e)) (a .b)) (sym (zero-add (15 - l .loop .j))))
+    horner 4 (firstOf (frameOf (a .f) (a .words .now)) (a .words .now) (requestOf (a .q)) (entryOf (a .e)) (a .b)) PIECES 0 (l .loop .j) (l .loop .info) (c .before .before .piece-at .result .p) (omega arith) (l .loop .inv .1) (c .before .before .piece-at .ensures .0 ∙ ap (firstOf (frameOf (a .f) (a .words .now)) (a .words .now) (requestOf (a .q)) (entryOf (a .e)) (a .b)) (sym (zero-add ((PIECES - 1) - l .loop .j))))
 
-turn-fits : (c : tie.Else1 Inv-loop μ-loop) → c .before .before .piece-at .result .p + 4 * c .before .before .before .before .loop .info < 2 ^ 32
+turn-fits : (c : tie.Else1 Inv-loop μ-loop) → c .before .before .piece-at .result .p + 4 * c .before .before .before .before .loop .info < INFO
 turn-fits c =
     let l = c .before .before .before .before in
     let a = l .before .before .args in
     let pre = l .before .before .pre in
-    subst (λ (k : ℕ). k < 2 ^ 32) (sym (turn-info c))
+    subst (λ (k : ℕ). k < INFO) (sym (turn-info c))
     (pack4-fits (firstOf (frameOf (a .f) (a .words .now)) (a .words .now) (requestOf (a .q)) (entryOf (a .e)) (a .b))
-    (λ k. after-small (a .f .paw) (a .f .first .0) (length (a .words .now) / 512) (a .words .now) (requestOf (a .q)) (pre .1 .small) (entryOf (a .e)) (pre .2) (a .b * 8192 + k * 512))
-    (l .loop .j + 1) (16 - (l .loop .j + 1)) (omega arith))
+    (λ k. after-small (a .f .paw) (a .f .first .0) (length (a .words .now) / WORDS) (a .words .now) (requestOf (a .q)) (pre .1 .small) (entryOf (a .e)) (pre .2) (a .b * 8192 + k * PIECE))
+    (l .loop .j + 1) (PIECES - (l .loop .j + 1)) (omega arith))
 
 loop-holds : tie.Need-loop-holds Inv-loop μ-loop
 unfolding pack every
@@ -65,8 +66,8 @@ returns : tie.Need-returns Inv-loop μ-loop
 returns c =
     let l = c .before .before .before .before in
     let a = l .before .before .args in
-    form-table (a .f .paw) (a .f .first .0) (length (a .words .now) / 512) (a .words .now) (requestOf (a .q)) (entryOf (a .e)) (a .b)
-    (every-fail (isOne (frameOf (a .f) (a .words .now)) (a .words .now) (requestOf (a .q)) (entryOf (a .e)) (a .b)) 16 (15 - l .loop .j) (omega arith)
+    form-table (a .f .paw) (a .f .first .0) (length (a .words .now) / WORDS) (a .words .now) (requestOf (a .q)) (entryOf (a .e)) (a .b)
+    (every-fail (isOne (frameOf (a .f) (a .words .now)) (a .words .now) (requestOf (a .q)) (entryOf (a .e)) (a .b)) PIECES ((PIECES - 1) - l .loop .j) (omega arith)
     (sym (turn-one (c .before .before)) ∙ not-true _ (c .if1 .taken)))
 
 mul-info : tie.Need-mul-info Inv-loop μ-loop
@@ -87,7 +88,7 @@ loop-again c =
     let a = l .before .before .args in (
       omega arith,
       turn-info (c .before),
-      every-down (isOne (frameOf (a .f) (a .words .now)) (a .words .now) (requestOf (a .q)) (entryOf (a .e)) (a .b)) 16 (l .loop .j) (omega arith) (l .loop .inv .2)
+      every-down (isOne (frameOf (a .f) (a .words .now)) (a .words .now) (requestOf (a .q)) (entryOf (a .e)) (a .b)) PIECES (l .loop .j) (omega arith) (l .loop .inv .2)
           (sym (turn-one (c .before .before .before)) ∙ not-false _ (c .before .if1 .left)),
     )
 
@@ -95,12 +96,12 @@ returns-2 : tie.Need-returns-2 Inv-loop μ-loop
 returns-2 c =
     let l = c .before in
     let a = l .before .before .args in
-    let z : l .loop .j ≡ 16 = omega arith in
+    let z : l .loop .j ≡ PIECES = omega arith in
     let g : ℕ → ℕ = firstOf (frameOf (a .f) (a .words .now)) (a .words .now) (requestOf (a .q)) (entryOf (a .e)) (a .b) in
     let t : ℕ → Bool = isOne (frameOf (a .f) (a .words .now)) (a .words .now) (requestOf (a .q)) (entryOf (a .e)) (a .b) in
-    ap wantPieces (l .loop .inv .1 ∙ ap (λ (k : ℕ). pack 4 g k (16 - k)) z)
-    ∙ form-pieces (a .f .paw) (a .f .first .0) (length (a .words .now) / 512) (a .words .now) (requestOf (a .q)) (entryOf (a .e)) (a .b)
-    (ap (λ (k : ℕ). every t k (16 - k)) (sym z) ∙ l .loop .inv .2)
+    ap wantPieces (l .loop .inv .1 ∙ ap (λ (k : ℕ). pack 4 g k (PIECES - k)) z)
+    ∙ form-pieces (a .f .paw) (a .f .first .0) (length (a .words .now) / WORDS) (a .words .now) (requestOf (a .q)) (entryOf (a .e)) (a .b)
+    (ap (λ (k : ℕ). every t k (PIECES - k)) (sym z) ∙ l .loop .inv .2)
 
 pub pieces-form-spec : {M : Type 1} → statement M
 pieces-form-spec =

@@ -1,13 +1,14 @@
 use mathlib.Core.Path.{ap, _∙_, subst}
 use Prim.Native.Nat.{ℕ, _+_, _*_, _/_}
 use lib.ListN.{length}
+use Rattle.table.specs.Board.{WORDS, EACHPIECE}
 use Rattle.forms.proofs.EvenLaws.{even-empty, mixed-first, mixed-past, even-spliced}
 use Rattle.forms.proofs.SpliceLaws.{splice-bits}
 use Rattle.range.specs.Kinds.{requestOf}
 use Rattle.forms.specs.Kinds.{Mixes}
 use Rattle.laws.proofs.Splices.{spliced}
 use Rattle.model.specs.Forms.{wantPieces}
-use Rattle.table.specs.Views.{entryOf}
+use Rattle.types.specs.Views.{entryOf}
 use borrow.Author.Needs.{needs}
 use Rattle.forms.proofs.even.even_form.Statement.{statement}
 use Rattle.forms.proofs.even.even_form.Tie as tie
@@ -25,7 +26,7 @@ returns : tie.Need-returns
 returns c =
     let s = c .before .before .before .before in
     let a = s .args in
-    even-empty (a .f .paw) (a .f .first .0) (length (a .words .now) / 512) (a .words .now) (requestOf (a .q)) (s .pre .1 .small) (entryOf (a .e)) (s .pre .2) (a .b) (a .info) (s .pre .3) (s .pre .4) (c .if1 .taken)
+    even-empty (a .f .paw) (a .f .first .0) (length (a .words .now) / WORDS) (a .words .now) (requestOf (a .q)) (s .pre .1 .small) (entryOf (a .e)) (s .pre .2) (a .b) (a .info) (s .pre .3) (s .pre .4) (c .if1 .taken)
 
 mixes-requires : tie.Need-mixes-requires
 mixes-requires c κs = search needs
@@ -34,7 +35,7 @@ returns-2 : tie.Need-returns-2
 returns-2 c =
     let s = c .before .before .before .before .before .before in
     let a = s .args in
-    mixed-first (a .f .paw) (a .f .first .0) (length (a .words .now) / 512) (a .words .now) (requestOf (a .q)) (s .pre .1 .small) (entryOf (a .e)) (s .pre .2) (a .b) (a .info) (s .pre .3) (s .pre .4)
+    mixed-first (a .f .paw) (a .f .first .0) (length (a .words .now) / WORDS) (a .words .now) (requestOf (a .q)) (s .pre .1 .small) (entryOf (a .e)) (s .pre .2) (a .b) (a .info) (s .pre .3) (s .pre .4)
     (c .before .before .if1 .left)
     (subst (Mixes (requestOf (a .q)) (a .b) (a .info) ((a .q .start .0 + 4095) / 4096)) (c .if2 .taken) (c .before .mixes .ensures))
 
@@ -45,7 +46,7 @@ returns-3 : tie.Need-returns-3
 returns-3 c =
     let s = c .before .before .before .before .before .before .before .before in
     let a = s .args in
-    mixed-past (a .f .paw) (a .f .first .0) (length (a .words .now) / 512) (a .words .now) (requestOf (a .q)) (s .pre .1 .small) (entryOf (a .e)) (s .pre .2) (a .b) (a .info) (s .pre .3) (s .pre .4)
+    mixed-past (a .f .paw) (a .f .first .0) (length (a .words .now) / WORDS) (a .words .now) (requestOf (a .q)) (s .pre .1 .small) (entryOf (a .e)) (s .pre .2) (a .b) (a .info) (s .pre .3) (s .pre .4)
     (c .before .before .before .before .if1 .left)
     (subst (Mixes (requestOf (a .q)) (a .b) (a .info) ((a .q .start .0 + a .q .size + 4095) / 4096)) (c .if3 .taken) (c .before .mixes2 .ensures))
 
@@ -90,12 +91,12 @@ returns-4 c =
     let a = s .args in
     let lo : ℕ = k .before .cut .result in
     let hi : ℕ = k .cut2 .result in
-    let want : ℕ = a .q .permission * 0x5555_5555 in
+    let want : ℕ = a .q .permission * EACHPIECE in
     ap wantPieces
     (c .splice2 .ensures
     ∙ ap (λ (w : ℕ). spliced 2 (2 * hi) w (a .info)) (c .before .splice .ensures ∙ splice-bits 2 lo (a .info) want)
     ∙ splice-bits 2 hi (spliced 4 lo (a .info) want) (a .info))
-    ∙ even-spliced (a .f .paw) (a .f .first .0) (length (a .words .now) / 512) (a .words .now) (requestOf (a .q)) (s .pre .1 .small) (entryOf (a .e)) (s .pre .2) (a .b) (a .info) (s .pre .3) (s .pre .4)
+    ∙ even-spliced (a .f .paw) (a .f .first .0) (length (a .words .now) / WORDS) (a .words .now) (requestOf (a .q)) (s .pre .1 .small) (entryOf (a .e)) (s .pre .2) (a .b) (a .info) (s .pre .3) (s .pre .4)
     (subst (Mixes (requestOf (a .q)) (a .b) (a .info) ((a .q .start .0 + 4095) / 4096)) (o .before .before .if2 .left) (o .before .before .before .mixes .ensures))
     (subst (Mixes (requestOf (a .q)) (a .b) (a .info) ((a .q .start .0 + a .q .size + 4095) / 4096)) (o .if3 .left) (o .before .mixes2 .ensures))
     lo hi (k .before .cut .ensures) (k .cut2 .ensures)

@@ -3,9 +3,10 @@ use Prim.Native.Nat.{ℕ, _+_, _*_, _/_, _<_}
 use native.Mathlib.Omega.{arith}
 use lib.ListN.{length}
 use borrow.Author.Needs.{needs}
+use Rattle.table.specs.Board.{WORDS}
 use Rattle.forms.proofs.GibLaws.{inside-first, inside-one}
 use Rattle.range.specs.Kinds.{requestOf}
-use Rattle.table.specs.Views.{frameOf, entryOf}
+use Rattle.types.specs.Views.{entryOf}
 use Rattle.theory.specs.Rooted.{Good}
 use Rattle.forms.proofs.gibs.gib_of.Statement.{statement}
 use Rattle.forms.proofs.gibs.gib_of.Tie as tie
@@ -36,8 +37,8 @@ returns c =
     let a = c .before .before .before .before .args in
     let pre = c .before .before .before .before .pre in
     let h = rw (c .enum-told .given .1) at (c .before .before .lies .ensures) in (
-      inside-first (a .f .paw) (a .f .first .0) (length (a .words .now) / 512) (a .words .now) (requestOf (a .q)) (pre .2 .small) (a .root .0) (pre .0) (a .g) (pre .1) h,
-      inside-one (a .f .paw) (a .f .first .0) (length (a .words .now) / 512) (a .words .now) (requestOf (a .q)) (pre .2 .small) (a .root .0) (pre .0) (a .g) (pre .1) h,
+      inside-first (a .f .paw) (a .f .first .0) (length (a .words .now) / WORDS) (a .words .now) (requestOf (a .q)) (pre .2 .small) (a .root .0) (pre .0) (a .g) (pre .1) h,
+      inside-one (a .f .paw) (a .f .first .0) (length (a .words .now) / WORDS) (a .words .now) (requestOf (a .q)) (pre .2 .small) (a .root .0) (pre .0) (a .g) (pre .1) h,
       pre .2 .small,
     )
 

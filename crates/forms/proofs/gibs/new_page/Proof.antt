@@ -1,13 +1,13 @@
 use mathlib.Core.Path.{_≡_, ap}
 use Prim.Native.Nat.{_/_}
 use lib.ListN.{length}
+use Rattle.table.specs.Board.{WORDS, frameOf}
 use Rattle.forms.proofs.FormLaws.{form-inside}
 use Rattle.range.specs.Kinds.{requestOf}
 use Rattle.model.specs.Forms.{Form}
 use Rattle.model.specs.Numbers.{if_then_else_}
 use Rattle.model.specs.Stores.{needsPage}
 use Rattle.model.specs.Walk.{entryAt}
-use Rattle.table.specs.Views.{frameOf}
 use borrow.Author.Needs.{needs}
 use Rattle.forms.proofs.gibs.new_page.Statement.{statement}
 use Rattle.forms.proofs.gibs.new_page.Tie as tie
@@ -46,7 +46,7 @@ returns c =
     let F = frameOf (a .f) (a .words .now) in
     let e = entryAt F (a .words .now) (a .root .0) (a .b) in
     ap (λ (x : Form). if needsPage x e then 1 else 0)
-    (form-inside (a .f .paw) (a .f .first .0) (length (a .words .now) / 512) (a .words .now) (requestOf (a .q)) (s .pre .2 .small) e (s .pre .0 .good (a .b) (s .pre .1)) (a .b)
+    (form-inside (a .f .paw) (a .f .first .0) (length (a .words .now) / WORDS) (a .words .now) (requestOf (a .q)) (s .pre .2 .small) e (s .pre .0 .good (a .b) (s .pre .1)) (a .b)
     (rw (c .enum-told .given .1) at (l .lies .ensures)))
 
 returns-2 : tie.Need-returns-2

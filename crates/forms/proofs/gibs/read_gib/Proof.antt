@@ -2,11 +2,11 @@ use mathlib.Core.Path.{_≡_, sym, ap, _∙_, subst}
 use Prim.Native.Nat.{_+_, _*_, _/_}
 use native.Mathlib.Omega.{arith}
 use lib.ListN.{length}
+use Rattle.table.specs.Board.{WORDS, PIECE, frameOf}
 use Rattle.forms.proofs.GibLaws.{first-of, mixed-gib}
 use Rattle.range.specs.Kinds.{requestOf, Meets}
 use Rattle.model.specs.Entry.{Entry}
 use Rattle.model.specs.Forms.{afterIn, gibFirst}
-use Rattle.table.specs.Views.{frameOf}
 use Rattle.theory.specs.Rooted.{Good}
 use borrow.Author.Needs.{needs}
 use Rattle.forms.proofs.gibs.read_gib.Statement.{statement}
@@ -17,7 +17,7 @@ first-is : (c : tie.After-piece-first) → let a = c .before .before .before .ar
 first-is c =
     let a = c .before .before .before .args in
     c .piece-first .ensures .0
-    ∙ ap (λ (e : Entry). afterIn (frameOf (a .f) (a .words .now)) (a .words .now) (requestOf (a .q)) e (a .g * 32 * 8192 + 0 * 512)) (c .before .entry-at .ensures)
+    ∙ ap (λ (e : Entry). afterIn (frameOf (a .f) (a .words .now)) (a .words .now) (requestOf (a .q)) e (a .g * 32 * 8192 + 0 * PIECE)) (c .before .entry-at .ensures)
     ∙ first-of _ _ _ (a .root .0) (a .g)
 
 mul-b : tie.Need-mul-b
@@ -47,7 +47,7 @@ returns c =
     let s = k .before .before .before in
     let a = s .args in (
       first-is k,
-      mixed-gib (a .f .paw) (a .f .first .0) (length (a .words .now) / 512) (a .words .now) (requestOf (a .q)) (s .pre .2 .small) (a .root .0) (a .g) (k .piece-first .result)
+      mixed-gib (a .f .paw) (a .f .first .0) (length (a .words .now) / WORDS) (a .words .now) (requestOf (a .q)) (s .pre .2 .small) (a .root .0) (a .g) (k .piece-first .result)
           (c .before .before .if1 .taken) (subst (Meets (requestOf (a .q)) (a .g * 32 * 8192) 262144) (c .if2 .taken) (c .before .meets .ensures)),
       k .piece-first .ensures .1,
     )

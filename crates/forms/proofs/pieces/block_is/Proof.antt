@@ -1,8 +1,9 @@
 use Prim.Native.Nat.{_*_, _/_}
 use lib.ListN.{length}
+use Rattle.table.specs.Board.{WORDS}
 use Rattle.forms.proofs.EntryLaws.{run-inside}
 use Rattle.range.specs.Kinds.{requestOf}
-use Rattle.table.specs.Views.{entryOf}
+use Rattle.types.specs.Views.{entryOf}
 use borrow.Author.Needs.{needs}
 use Rattle.forms.proofs.pieces.block_is.Statement.{statement}
 use Rattle.forms.proofs.pieces.block_is.Tie as tie
@@ -34,7 +35,7 @@ returns : tie.Need-returns
 returns c =
     let s = c .before .before .before .before .before in
     let a = s .args in
-    run-inside (a .f .paw) (a .f .first .0) (length (a .words .now) / 512) (a .words .now) (requestOf (a .q)) (s .pre .2 .small) (entryOf (a .e)) (s .pre .3) (a .p) 8191 (a .b * 8192)
+    run-inside (a .f .paw) (a .f .first .0) (length (a .words .now) / WORDS) (a .words .now) (requestOf (a .q)) (s .pre .2 .small) (entryOf (a .e)) (s .pre .3) (a .p) 8191 (a .b * 8192)
     (rw (c .before .enum-told .given .1) at (c .before .before .before .lies .ensures))
 
 returns-2 : tie.Need-returns-2

@@ -2,10 +2,11 @@ use mathlib.Core.Path.{_≡_, refl, sym, ap, _∙_, subst}
 use Prim.Native.Nat.{ℕ, _+_, _*_, _/_, _%_, _<_, _^_}
 use native.Mathlib.Omega.{arith}
 use lib.ListN.{length}
+use Rattle.table.specs.Board.{WORDS, FIELDS, PIECE, ROW, ENTRY, frameOf}
 use Rattle.forms.proofs.EntryLaws.{first-field, after-small, word-outside}
 use Rattle.range.specs.Kinds.{requestOf}
 use Rattle.model.specs.Forms.{afterIn}
-use Rattle.table.specs.Views.{frameOf, entryOf}
+use Rattle.types.specs.Views.{entryOf}
 use borrow.Author.Needs.{needs}
 use Rattle.forms.proofs.pieces.old_first.Statement.{statement}
 use Rattle.forms.proofs.pieces.old_first.Tie as tie
@@ -26,17 +27,17 @@ returns : tie.Need-returns
 returns c = let a = c .before .before .args in
     let pre = c .before .before .pre in
     let u = pre .1 in
-    let z : a .b * 8192 + a .i * 32 * 16 ≡ a .b * 8192 + a .i * 512 = omega arith in
-    let e : c .old-word .result % 16 ≡ afterIn (frameOf (a .f) (a .words .now)) (a .words .now) (requestOf (a .q)) (entryOf (a .e)) (a .b * 8192 + a .i * 512)
+    let z : a .b * 8192 + a .i * ROW * FIELDS ≡ a .b * 8192 + a .i * PIECE = omega arith in
+    let e : c .old-word .result % 16 ≡ afterIn (frameOf (a .f) (a .words .now)) (a .words .now) (requestOf (a .q)) (entryOf (a .e)) (a .b * 8192 + a .i * PIECE)
     = ap (λ (k : ℕ). k % 16)
-    (c .old-word .ensures
-    ∙ word-outside (a .f .paw) (a .f .first .0) (length (a .words .now) / 512) (a .words .now) (requestOf (a .q)) (pre .2 .small) (entryOf (a .e)) (pre .3) (a .b) (a .i * 32) (omega arith)
-    (subst (λ (k : ℕ). k < 2 ^ 64) (c .old-word .ensures) (c .old-word .ok)) (λ k lo hi. pre .4 k (omega arith) (omega arith)))
-    ∙ first-field (a .f .paw) (a .f .first .0) (length (a .words .now) / 512) (a .words .now) (requestOf (a .q)) (pre .2 .small) (entryOf (a .e)) (pre .3) (a .b) (a .i * 32)
+    (c .old-word .ensures .0
+    ∙ word-outside (a .f .paw) (a .f .first .0) (length (a .words .now) / WORDS) (a .words .now) (requestOf (a .q)) (pre .2 .small) (entryOf (a .e)) (pre .3) (a .b) (a .i * ROW) (omega arith)
+    (subst (λ (k : ℕ). k < ENTRY) (c .old-word .ensures .0) (c .old-word .ensures .1)) (λ k lo hi. pre .4 k (omega arith) (omega arith)))
+    ∙ first-field (a .f .paw) (a .f .first .0) (length (a .words .now) / WORDS) (a .words .now) (requestOf (a .q)) (pre .2 .small) (entryOf (a .e)) (pre .3) (a .b) (a .i * ROW)
     ∙ ap (afterIn (frameOf (a .f) (a .words .now)) (a .words .now) (requestOf (a .q)) (entryOf (a .e))) z in (
       e,
       subst (λ (k : ℕ). k < 4) (sym e)
-          (after-small (a .f .paw) (a .f .first .0) (length (a .words .now) / 512) (a .words .now) (requestOf (a .q)) (pre .2 .small) (entryOf (a .e)) (pre .3) (a .b * 8192 + a .i * 512)),
+          (after-small (a .f .paw) (a .f .first .0) (length (a .words .now) / WORDS) (a .words .now) (requestOf (a .q)) (pre .2 .small) (entryOf (a .e)) (pre .3) (a .b * 8192 + a .i * PIECE)),
     )
 
 pub old-first-spec : {M : Type 1} → statement M

@@ -1,12 +1,13 @@
 use mathlib.Core.Path.{_≡_, refl, sym, ap, _∙_, subst}
-use Prim.Native.Nat.{ℕ, _+_, _*_, _/_, _<_}
+use Prim.Native.Nat.{ℕ, _+_, _*_, _/_, _<_, _-_}
 use native.Mathlib.Omega.{arith}
 use lib.ListN.{length}
 use borrow.Author.Tests.{eq-eqb}
+use Rattle.table.specs.Board.{WORDS, PIECE}
 use Rattle.forms.proofs.EntryLaws.{run-inside}
 use Rattle.range.specs.Kinds.{requestOf}
 use Rattle.model.specs.Forms.{afterIn}
-use Rattle.table.specs.Views.{frameOf, entryOf}
+use Rattle.types.specs.Views.{entryOf}
 use borrow.Author.Needs.{needs}
 use Rattle.forms.proofs.pieces.piece_at.Statement.{statement}
 use Rattle.forms.proofs.pieces.piece_at.Tie as tie
@@ -59,9 +60,9 @@ unfolding afterIn
 returns c = let s = c .before .before .before .before in
     let a = s .args in
     let h = rw (c .enum-told .given .1) at (c .before .before .lies .ensures) in (
-      rw (h (a .b * 8192 + a .i * 512) (omega arith) (omega arith)),
+      rw (h (a .b * 8192 + a .i * PIECE) (omega arith) (omega arith)),
       sym (eq-eqb (a .q .permission) (a .q .permission) refl)
-          ∙ run-inside (a .f .paw) (a .f .first .0) (length (a .words .now) / 512) (a .words .now) (requestOf (a .q)) (s .pre .2 .small) (entryOf (a .e)) (s .pre .3) (a .q .permission) 511 (a .b * 8192 + a .i * 512) h,
+          ∙ run-inside (a .f .paw) (a .f .first .0) (length (a .words .now) / WORDS) (a .words .now) (requestOf (a .q)) (s .pre .2 .small) (entryOf (a .e)) (s .pre .3) (a .q .permission) (PIECE - 1) (a .b * 8192 + a .i * PIECE) h,
       s .pre .2 .small,
     )
 

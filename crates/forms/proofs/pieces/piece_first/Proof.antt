@@ -3,10 +3,11 @@ use Prim.Native.Nat.{ℕ, _+_, _-_, _*_, _/_, _%_, _≤_, _<_}
 use native.Mathlib.Omega.{arith}
 use lib.ListN.{length}
 use borrow.Author.Needs.{needs}
+use Rattle.table.specs.Board.{WORDS, FIELDS, PIECE, ROW, frameOf}
 use Rattle.forms.proofs.EntryLaws.{first-field, after-small}
 use Rattle.range.specs.Kinds.{requestOf}
 use Rattle.model.specs.Forms.{afterIn}
-use Rattle.table.specs.Views.{frameOf, entryOf}
+use Rattle.types.specs.Views.{entryOf}
 use Rattle.forms.proofs.pieces.piece_first.Statement.{statement}
 use Rattle.forms.proofs.pieces.piece_first.Tie as tie
 
@@ -20,14 +21,14 @@ returns : tie.Need-returns
 returns c =
     let a = c .before .before .args in
     let pre = c .before .before .pre in
-    let z : a .b * 8192 + a .i * 32 * 16 ≡ a .b * 8192 + a .i * 512 = omega arith in
-    let e : c .after-word .result % 16 ≡ afterIn (frameOf (a .f) (a .words .now)) (a .words .now) (requestOf (a .q)) (entryOf (a .e)) (a .b * 8192 + a .i * 512)
-    = ap (λ (k : ℕ). k % 16) (c .after-word .ensures)
-    ∙ first-field (a .f .paw) (a .f .first .0) (length (a .words .now) / 512) (a .words .now) (requestOf (a .q)) (pre .2 .small) (entryOf (a .e)) (pre .3) (a .b) (a .i * 32)
+    let z : a .b * 8192 + a .i * ROW * FIELDS ≡ a .b * 8192 + a .i * PIECE = omega arith in
+    let e : c .after-word .result % 16 ≡ afterIn (frameOf (a .f) (a .words .now)) (a .words .now) (requestOf (a .q)) (entryOf (a .e)) (a .b * 8192 + a .i * PIECE)
+    = ap (λ (k : ℕ). k % 16) (c .after-word .ensures .0)
+    ∙ first-field (a .f .paw) (a .f .first .0) (length (a .words .now) / WORDS) (a .words .now) (requestOf (a .q)) (pre .2 .small) (entryOf (a .e)) (pre .3) (a .b) (a .i * ROW)
     ∙ ap (afterIn (frameOf (a .f) (a .words .now)) (a .words .now) (requestOf (a .q)) (entryOf (a .e))) z in (
       e,
       subst (λ (k : ℕ). k < 4) (sym e)
-          (after-small (a .f .paw) (a .f .first .0) (length (a .words .now) / 512) (a .words .now) (requestOf (a .q)) (pre .2 .small) (entryOf (a .e)) (pre .3) (a .b * 8192 + a .i * 512)),
+          (after-small (a .f .paw) (a .f .first .0) (length (a .words .now) / WORDS) (a .words .now) (requestOf (a .q)) (pre .2 .small) (entryOf (a .e)) (pre .3) (a .b * 8192 + a .i * PIECE)),
     )
 
 pub piece-first-spec : {M : Type 1} → statement M

@@ -4,10 +4,11 @@ use native.Mathlib.Omega.{arith}
 use lib.ListN.{length}
 use lib.Dec.{eqb}
 use borrow.Author.Needs.{needs}
+use Rattle.table.specs.Board.{WORDS, FIELDS, PIECE, ROW, frameOf}
 use Rattle.forms.proofs.EntryLaws.{run-inside}
 use Rattle.range.specs.Kinds.{requestOf}
 use Rattle.model.specs.Forms.{allAre}
-use Rattle.table.specs.Views.{frameOf, entryOf}
+use Rattle.types.specs.Views.{entryOf}
 use Rattle.forms.proofs.pieces.piece_is.Statement.{statement}
 use Rattle.forms.proofs.pieces.piece_is.Tie as tie
 
@@ -47,7 +48,7 @@ returns : tie.Need-returns
 returns c =
     let a = c .before .before .before .before .before .args in
     let pre = c .before .before .before .before .before .pre in
-    run-inside (a .f .paw) (a .f .first .0) (length (a .words .now) / 512) (a .words .now) (requestOf (a .q)) (pre .3 .small) (entryOf (a .e)) (pre .4) (a .p) 511 (a .b * 8192 + a .i * 512)
+    run-inside (a .f .paw) (a .f .first .0) (length (a .words .now) / WORDS) (a .words .now) (requestOf (a .q)) (pre .3 .small) (entryOf (a .e)) (pre .4) (a .p) (PIECE - 1) (a .b * 8192 + a .i * PIECE)
     (rw (c .before .enum-told .given .1) at (c .before .before .before .lies .ensures))
 
 returns-2 : tie.Need-returns-2
@@ -56,8 +57,8 @@ returns-2 c = search needs
 returns-3 : tie.Need-returns-3
 returns-3 c =
     let a = c .before .before .before .before .before .args in
-    let z : a .b * 8192 + a .i * 32 * 16 ≡ a .b * 8192 + a .i * 512 = omega arith in
-    c .words-are .ensures ∙ ap (allAre (frameOf (a .f) (a .words .now)) (a .words .now) (requestOf (a .q)) (entryOf (a .e)) (a .p) 512) z
+    let z : a .b * 8192 + a .i * ROW * FIELDS ≡ a .b * 8192 + a .i * PIECE = omega arith in
+    c .words-are .ensures ∙ ap (allAre (frameOf (a .f) (a .words .now)) (a .words .now) (requestOf (a .q)) (entryOf (a .e)) (a .p) PIECE) z
 
 pub piece-is-spec : {M : Type 1} → statement M
 piece-is-spec =

@@ -5,34 +5,33 @@ use native.Mathlib.Omega.{arith}
 use lib.Dec.{eqb}
 use lib.ListN.{length, getD}
 use borrow.Author.Tests.{eq-eqb, ne-eqb}
+use Rattle.table.specs.Board.{ROW}
 use Rattle.forms.proofs.GibLaws.{every-next, every-stop, every-none}
 use Rattle.model.specs.Numbers.{every}
 use Rattle.forms.proofs.pieces.same_words.Statement.{statement}
 use Rattle.forms.proofs.pieces.same_words.Tie as tie
 
 abbrev Inv-loop : tie.InvT-loop
-Inv-loop words at want i₀ i = (i ≤ 32) × (every (λ k. eqb (getD words k 0) want) 32 at ≡ every (λ k. eqb (getD words k 0) want) (32 - i) (at + i))
+Inv-loop words at want i₀ i = (i ≤ ROW) × (every (λ k. eqb (getD words k 0) want) ROW at ≡ every (λ k. eqb (getD words k 0) want) (ROW - i) (at + i))
 
 abbrev μ-loop : tie.MeasureT-loop
-μ-loop words at want i₀ i = 32 - i
+μ-loop words at want i₀ i = ROW - i
 
 loop-holds : tie.Need-loop-holds Inv-loop μ-loop
-loop-holds c = let z : c .args .at ≡ c .args .at + 0 = omega arith in (omega arith, ap (every (λ k. eqb (getD (c .args .words .now) k 0) (c .args .want)) 32) z)
+loop-holds c = let a = c .before .args in
+    let z : a .at ≡ a .at + 0 = omega arith in (omega arith, ap (every (λ k. eqb (getD (a .words .now) k 0) (a .want)) ROW) z)
 
-add-if1 : tie.Need-add-if1 Inv-loop μ-loop
-add-if1 c = omega arith
+add-read-word : tie.Need-add-read-word Inv-loop μ-loop
+add-read-word c = omega arith
 
-mul-if1 : tie.Need-mul-if1 Inv-loop μ-loop
-mul-if1 c = omega arith
-
-shared-slice-read-if1 : tie.Need-shared-slice-read-if1 Inv-loop μ-loop
-shared-slice-read-if1 c = omega arith
+read-word-requires : tie.Need-read-word-requires Inv-loop μ-loop
+read-word-requires c κs = omega arith
 
 returns : tie.Need-returns Inv-loop μ-loop
 returns c =
     let l = c .before .before .before in
-    let a = l .before .args in
-    sym (l .loop .inv .1 ∙ every-stop (λ k. eqb (getD (a .words .now) k 0) (a .want)) 32 (a .at) (l .loop .i) (omega arith) (ne-eqb _ _ (c .if1 .taken)))
+    let a = l .before .before .args in
+    sym (l .loop .inv .1 ∙ every-stop (λ k. eqb (getD (a .words .now) k 0) (a .want)) ROW (a .at) (l .loop .i) (omega arith) (ap (λ (w : ℕ). eqb w (a .want)) (sym (c .before .read-word .ensures .0)) ∙ ne-eqb _ _ (c .if1 .taken)))
 
 add-i : tie.Need-add-i Inv-loop μ-loop
 add-i c = omega arith
@@ -43,15 +42,15 @@ loop-less c = omega arith
 loop-again : tie.Need-loop-again Inv-loop μ-loop
 loop-again c =
     let l = c .before .before .before in
-    let a = l .before .args in
-    (omega arith, l .loop .inv .1 ∙ every-next (λ k. eqb (getD (a .words .now) k 0) (a .want)) 32 (a .at) (l .loop .i) (omega arith) (eq-eqb _ _ (c .if1 .left)))
+    let a = l .before .before .args in
+    (omega arith, l .loop .inv .1 ∙ every-next (λ k. eqb (getD (a .words .now) k 0) (a .want)) ROW (a .at) (l .loop .i) (omega arith) (ap (λ (w : ℕ). eqb w (a .want)) (sym (c .before .read-word .ensures .0)) ∙ eq-eqb _ _ (c .if1 .left)))
 
 returns-2 : tie.Need-returns-2 Inv-loop μ-loop
 returns-2 c =
     let l = c .before in
-    let a = l .before .args in
-    let z : 32 - l .loop .i ≡ 0 = omega arith in
-    sym (l .loop .inv .1 ∙ every-none (λ k. eqb (getD (a .words .now) k 0) (a .want)) (32 - l .loop .i) (a .at + l .loop .i) z)
+    let a = l .before .before .args in
+    let z : ROW - l .loop .i ≡ 0 = omega arith in
+    sym (l .loop .inv .1 ∙ every-none (λ k. eqb (getD (a .words .now) k 0) (a .want)) (ROW - l .loop .i) (a .at + l .loop .i) z)
 
 pub same-words-spec : {M : Type 1} → statement M
 same-words-spec =
@@ -60,9 +59,8 @@ same-words-spec =
     Inv-loop
     μ-loop
     loop-holds
-    add-if1
-    mul-if1
-    shared-slice-read-if1
+    add-read-word
+    read-word-requires
     returns
     add-i
     loop-less

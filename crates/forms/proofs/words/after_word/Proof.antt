@@ -1,12 +1,14 @@
 use mathlib.Core.Path.{_≡_, sym, ap, _∙_, subst}
 use Prim.Native.Nat.{ℕ, _+_, _*_, _/_, _<_, _^_}
 use lib.ListN.{length}
+use native.Mathlib.Omega.{arith}
 use borrow.Author.Needs.{needs}
+use Rattle.table.specs.Board.{WORDS, FIELDS, ENTRY}
 use Rattle.forms.proofs.EntryLaws.{word-inside, word-outside, word-across}
 use Rattle.range.specs.Kinds.{requestOf}
 use Rattle.forms.specs.Kinds.{mixedAt}
 use Rattle.model.specs.Numbers.{pack}
-use Rattle.table.specs.Views.{entryOf}
+use Rattle.types.specs.Views.{entryOf}
 use Rattle.forms.proofs.words.after_word.Statement.{statement}
 use Rattle.forms.proofs.words.after_word.Tie as tie
 
@@ -47,28 +49,28 @@ returns : tie.Need-returns
 returns c =
     let a = c .before .before .before .before .before .args in
     let pre = c .before .before .before .before .before .pre in
-    c .spread .ensures
-    ∙ word-inside (a .f .paw) (a .f .first .0) (length (a .words .now) / 512) (a .words .now) (requestOf (a .q)) (pre .2 .small) (entryOf (a .e)) (pre .3) (a .b) (a .i)
-    (rw (c .before .enum-told .given .1) at (c .before .before .before .lies .ensures))
+    (c .spread .ensures
+    ∙ word-inside (a .f .paw) (a .f .first .0) (length (a .words .now) / WORDS) (a .words .now) (requestOf (a .q)) (pre .2 .small) (entryOf (a .e)) (pre .3) (a .b) (a .i)
+    (rw (c .before .enum-told .given .1) at (c .before .before .before .lies .ensures)), omega (arith, c .spread .ensures, pre .2 .small))
 
 returns-2 : tie.Need-returns-2
 returns-2 c =
     let a = c .before .before .before .before .before .args in
     let pre = c .before .before .before .before .before .pre in
-    c .old-word .ensures
-    ∙ word-outside (a .f .paw) (a .f .first .0) (length (a .words .now) / 512) (a .words .now) (requestOf (a .q)) (pre .2 .small) (entryOf (a .e)) (pre .3) (a .b) (a .i) (pre .1)
-    (subst (λ (k : ℕ). k < 2 ^ 64) (c .old-word .ensures) (c .old-word .ok))
-    (rw (c .before .enum-told2 .given .1) at (c .before .before .before .lies .ensures))
+    (c .old-word .ensures .0
+    ∙ word-outside (a .f .paw) (a .f .first .0) (length (a .words .now) / WORDS) (a .words .now) (requestOf (a .q)) (pre .2 .small) (entryOf (a .e)) (pre .3) (a .b) (a .i) (pre .1)
+    (subst (λ (k : ℕ). k < ENTRY) (c .old-word .ensures .0) (c .old-word .ensures .1))
+    (rw (c .before .enum-told2 .given .1) at (c .before .before .before .lies .ensures)), c .old-word .ensures .1)
 
 returns-3 : tie.Need-returns-3
 returns-3 c =
     let a = c .before .before .before .before .before .before .args in
     let pre = c .before .before .before .before .before .before .pre in
-    let s : ℕ = a .b * 8192 + a .i * 16 in
-    c .mixed-word .ensures
-    ∙ ap (λ (w : ℕ). pack 16 (mixedAt (requestOf (a .q)) w s) 16 s) (c .before .old-word2 .ensures)
-    ∙ word-across (a .f .paw) (a .f .first .0) (length (a .words .now) / 512) (a .words .now) (requestOf (a .q)) (pre .2 .small) (entryOf (a .e)) (pre .3) (a .b) (a .i) (pre .1)
-    (subst (λ (k : ℕ). k < 2 ^ 64) (c .before .old-word2 .ensures) (c .before .old-word2 .ok))
+    let s : ℕ = a .b * 8192 + a .i * FIELDS in
+    (c .mixed-word .ensures .0
+    ∙ ap (λ (w : ℕ). pack 16 (mixedAt (requestOf (a .q)) w s) FIELDS s) (c .before .old-word2 .ensures .0)
+    ∙ word-across (a .f .paw) (a .f .first .0) (length (a .words .now) / WORDS) (a .words .now) (requestOf (a .q)) (pre .2 .small) (entryOf (a .e)) (pre .3) (a .b) (a .i) (pre .1)
+    (subst (λ (k : ℕ). k < ENTRY) (c .before .old-word2 .ensures .0) (c .before .old-word2 .ensures .1)), c .mixed-word .ensures .1)
 
 pub after-word-spec : {M : Type 1} → statement M
 after-word-spec =

@@ -34,20 +34,21 @@ page-at-requires c κs = (rw (c .before .e3 .given .1) at (c .before .before .be
 add-at : tie.Need-add-at
 add-at c = search needs
 
-mul-result : tie.Need-mul-result
-mul-result c = search needs
-
-shared-slice-read-result : tie.Need-shared-slice-read-result
-shared-slice-read-result c = search needs
+read-word-requires : tie.Need-read-word-requires
+read-word-requires c κs = search needs
 
 enum-told : tie.Need-enum-told
 enum-told c = search needs
 
 returns : tie.Need-returns
-returns c = rw (c .before .before .e .given .1) (c .spread .ensures)
+returns c = let small = spread-requires (c .before) (c .spread .lifetimes) in
+    (rw (c .before .before .e .given .1) (c .spread .ensures), omega (arith, c .spread .ensures, small))
 
 returns-2 : tie.Need-returns-2
-returns-2 c = rw (c .before .before .before .e2 .given .1) (c .spread2 .ensures ∙ ap spreadOf (c .before .piece .ensures .0))
+returns-2 c = (
+      rw (c .before .before .before .e2 .given .1) (c .spread2 .ensures ∙ ap spreadOf (c .before .piece .ensures .0)),
+      omega (arith, c .spread2 .ensures, c .before .piece .ensures .1),
+    )
 
 returns-3 : tie.Need-returns-3
 unfolding wordAt
@@ -55,7 +56,7 @@ returns-3 c =
     let a = c .before .before .before .before .before .before .args in
     let at : c .before .page-at .result + a .i ≡ indexOf _ (c .before .before .before .e3 .given .0 .0 .0) (a .i)
     = ap (λ (k : ℕ). k + a .i) (c .before .page-at .ensures .0) ∙ index-add _ (c .before .before .before .e3 .given .0 .0 .0) (a .i) in
-    rw (c .before .before .before .e3 .given .1) (ap (λ (k : ℕ). getD (a .words .now) k 0) at)
+    (rw (c .before .before .before .e3 .given .1) (c .read-word .ensures .0 ∙ ap (λ (k : ℕ). getD (a .words .now) k 0) at), c .read-word .ensures .1)
 
 returns-4 : tie.Need-returns-4
 returns-4 c = search needs
@@ -72,8 +73,7 @@ old-word-spec =
     enum-known-e-3
     page-at-requires
     add-at
-    mul-result
-    shared-slice-read-result
+    read-word-requires
     enum-told
     returns
     returns-2

@@ -3,7 +3,7 @@ use native.Mathlib.Omega.{arith}
 use lib.Dec.{lit≤}
 use borrow.Author.Tests.{eq-eqb, ne-eqb, lt-ltb, le-ltb}
 use Rattle.model.specs.Calls.{meetsLent}
-use Rattle.table.specs.Views.{frameOver}
+use Rattle.table.specs.Board.{frameOver}
 use Rattle.range.specs.Kinds.{requestOf}
 use Rattle.range.proofs.Ends.{range-ends, lent-ends}
 use Rattle.range.proofs.bounds.on_lent_pages.Statement.{statement}

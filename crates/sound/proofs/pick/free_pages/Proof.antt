@@ -3,14 +3,14 @@ use mathlib.Core.Path.{_≡_, sym, ap, _∙_}
 use mathlib.Core.List.{List, [], _∷_, headD}
 use Prim.Native.Nat.{ℕ, _+_, _-_, _/_, _≤_, _<_, _^_}
 use native.Mathlib.Omega.{arith}
-use Rattle.table.proofs.Frames.{bounds, few-pages}
-use Rattle.table.specs.Views.{frameOver}
-use Rattle.sound.specs.Free.{clearPages, listed}
-use Rattle.sound.proofs.Clear.{clear, clear-all, clear-end, clear-next}
+use Rattle.laws.proofs.Frames.{bounds, few-pages}
+use Rattle.table.specs.Board.{board, frameOver}
+use Rattle.scan.specs.Free.{clearPages, listed}
+use Rattle.scan.proofs.Clear.{clear, clear-all, clear-end, clear-next}
 use Rattle.sound.proofs.pick.free_pages.Statement.{statement}
 use Rattle.sound.proofs.pick.free_pages.Tie as tie
 
-few : (s : tie.Start) → s .args .n / 512 ≤ 256
+few : (s : tie.Start) → s .args .n / board .words ≤ 256
 few s = bounds _ (s .pre) .most
 
 low : (s : tie.Start) → s .args .f .first .0 ≤ 2 ^ 22
@@ -18,7 +18,7 @@ low s = let h = bounds _ (s .pre) in omega (arith, h, few-pages _ (h .paw-high))
 
 -- the clear pages from place i on
 from : (s : tie.Start) → ℕ → List ℕ
-from s i = clear (s .args .used .now) (s .args .f .first .0) (s .args .n / 512) (s .args .n / 512 - i) i
+from s i = clear (s .args .used .now) (s .args .f .first .0) (s .args .n / board .words) (s .args .n / board .words - i) i
 
 all : (s : tie.Start) → clearPages (frameOver (s .args .f) (s .args .n)) (s .args .used .now) ≡ from s 0
 unfolding clearPages from
@@ -30,7 +30,7 @@ unfolding from
 one c =
     let s = c .before .before in
     let r = c .before .next-clear in
-    let h : r .result < s .args .n / 512 = omega (arith, r .ensures .1, c .if1 .left) in
+    let h : r .result < s .args .n / board .words = omega (arith, r .ensures .1, c .if1 .left) in
     clear-next _ _ _ 0 (r .result) (r .ensures .0) (r .ensures .1) (r .ensures .2) h (r .ensures .3 h)
 
 next-clear-requires : tie.Need-next-clear-requires
@@ -74,7 +74,7 @@ returns-3 c =
     let s = e .before .before in
     let r = e .before .next-clear .result in
     let n = c .before .next-clear2 in
-    let h : n .result < s .args .n / 512 = omega (arith, n .ensures .1, c .if2 .left) in
+    let h : n .result < s .args .n / board .words = omega (arith, n .ensures .1, c .if2 .left) in
     sym (ap listed (all s ∙ one e ∙ ap (λ (l : List ℕ). (s .args .f .first .0 + r) ∷ l) (clear-next _ _ _ (r + 1) (n .result) (n .ensures .0) (n .ensures .1) (n .ensures .2) h (n .ensures .3 h))))
 
 pub free-pages-spec : {M : Type 1} → statement M

@@ -5,7 +5,7 @@ use Prim.Native.Nat.{ℕ, _+_, _-_, _≤_, _<_}
 use native.Mathlib.Omega.{arith}
 use borrow.Author.Tests.{not-true, not-false}
 use lib.ListN.{getD}
-use Rattle.sound.proofs.Clear.{marked-on}
+use Rattle.scan.proofs.Clear.{marked-on}
 use Rattle.sound.proofs.pick.next_clear.Statement.{statement}
 use Rattle.sound.proofs.pick.next_clear.Tie as tie
 

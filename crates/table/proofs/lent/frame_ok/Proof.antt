@@ -8,15 +8,16 @@ use lib.Dec.{eqb, leb}
 use lib.Pow.{pow-mono}
 use borrow.Author.Tests.{eq-eqb, ne-eqb, eqb-true, eqb-false, le-leb, lt-leb}
 use borrow.Author.Needs.{needs}
+use Rattle.table.specs.Board.{board}
 use Rattle.model.specs.Frame.{space, boundsOk, frameOk}
-use Rattle.table.proofs.Tests.{tests}
+use Rattle.laws.proofs.Tests.{tests}
 use Rattle.table.proofs.lent.frame_ok.Statement.{statement}
 use Rattle.table.proofs.lent.frame_ok.Tie as tie
 
 -- so many words are whole pages
-whole : (n : ℕ) (b : Bool) → eqb (n % 512) 0 ≡ b → eqb (n % 512) 0 ≡ eqb n (n / 512 * 512)
-whole n true e = e ∙ sym (eq-eqb n (n / 512 * 512) (omega (arith, eqb-true (n % 512) 0 e)))
-whole n false e = e ∙ sym (ne-eqb n (n / 512 * 512) (λ s. eqb-false (n % 512) 0 e (omega arith)))
+whole : (n : ℕ) (b : Bool) → eqb (n % board .words) 0 ≡ b → eqb (n % board .words) 0 ≡ eqb n (n / board .words * board .words)
+whole n true e = e ∙ sym (eq-eqb n (n / board .words * board .words) (omega (arith, eqb-true (n % board .words) 0 e)))
+whole n false e = e ∙ sym (ne-eqb n (n / board .words * board .words) (λ s. eqb-false (n % board .words) 0 e (omega arith)))
 
 -- within every bound but the last two
 inside : (paw first pages : ℕ) (room whole : Bool) → 30 ≤ paw → paw ≤ 34 → 2 ≤ pages → pages ≤ 256 → 1 ≤ first
@@ -56,17 +57,17 @@ returns-6 : tie.Need-returns-6
 unfolding frameOk boundsOk space
 returns-6 c = let a = c .before .before .before .before .before .before .before .before .args in
     let p = c .before .pow2 .ensures in
-    let e : leb (a .f .first .0 + length (a .words .now) / 512) (2 ^ (a .f .paw - 12)) ≡ false
-    = lt-leb (a .f .first .0 + length (a .words .now) / 512) (2 ^ (a .f .paw - 12)) (omega (arith, p, sub-if6 (c .before))) in
-    sym (inside (a .f .paw) (a .f .first .0) (length (a .words .now) / 512) _ _ (omega arith) (omega arith) (omega arith) (omega arith) (omega arith) ∙ rw e)
+    let e : leb (a .f .first .0 + length (a .words .now) / board .words) (2 ^ (a .f .paw - 12)) ≡ false
+    = lt-leb (a .f .first .0 + length (a .words .now) / board .words) (2 ^ (a .f .paw - 12)) (omega (arith, p, sub-if6 (c .before))) in
+    sym (inside (a .f .paw) (a .f .first .0) (length (a .words .now) / board .words) _ _ (omega arith) (omega arith) (omega arith) (omega arith) (omega arith) ∙ rw e)
 
 returns-7 : tie.Need-returns-7
 unfolding frameOk boundsOk space
 returns-7 c = let a = c .before .before .before .before .before .before .before .before .args in
     let p = c .before .pow2 .ensures in
-    let e : leb (a .f .first .0 + length (a .words .now) / 512) (2 ^ (a .f .paw - 12)) ≡ true
-    = le-leb (a .f .first .0 + length (a .words .now) / 512) (2 ^ (a .f .paw - 12)) (omega (arith, p, sub-if6 (c .before))) in
-    sym (inside (a .f .paw) (a .f .first .0) (length (a .words .now) / 512) _ _ (omega arith) (omega arith) (omega arith) (omega arith) (omega arith) ∙ rw e (sym (whole (length (a .words .now)) _ refl)))
+    let e : leb (a .f .first .0 + length (a .words .now) / board .words) (2 ^ (a .f .paw - 12)) ≡ true
+    = le-leb (a .f .first .0 + length (a .words .now) / board .words) (2 ^ (a .f .paw - 12)) (omega (arith, p, sub-if6 (c .before))) in
+    sym (inside (a .f .paw) (a .f .first .0) (length (a .words .now) / board .words) _ _ (omega arith) (omega arith) (omega arith) (omega arith) (omega arith) ∙ rw e (sym (whole (length (a .words .now)) _ refl)))
 
 pub frame-ok-spec : {M : Type 1} → statement M
 frame-ok-spec =

@@ -1,7 +1,7 @@
 -- `table::lent::page_start` meets its contract: a lent page is one of the pages from the first, so its 512 words are inside.
 use native.Mathlib.Omega.{arith}
 use Rattle.model.specs.Frame.{indexOf}
-use Rattle.table.proofs.Frames.{lent-in}
+use Rattle.laws.proofs.Frames.{lent-in}
 use Rattle.table.proofs.lent.page_start.Statement.{statement}
 use Rattle.table.proofs.lent.page_start.Tie as tie
 

@@ -1,22 +1,25 @@
 -- `table::register::new` meets its contract.
-use mathlib.Core.Path.{refl}
+use native.Mathlib.Omega.{arith}
 use borrow.Author.Needs.{needs}
 use Rattle.model.specs.Register.{registerOf}
 use Rattle.table.proofs.register.new.Statement.{statement}
 use Rattle.table.proofs.register.new.Tie as tie
 
-mul-result : tie.Need-mul-result
-mul-result c = search needs
+mul-narrow : tie.Need-mul-narrow
+mul-narrow c = search needs
 
-add-result : tie.Need-add-result
-add-result c = search needs
+add-narrow : tie.Need-add-narrow
+add-narrow c = search needs
 
-add-result-2 : tie.Need-add-result-2
-add-result-2 c = search needs
+add-narrow-2 : tie.Need-add-narrow-2
+add-narrow-2 c = search needs
+
+narrow-requires : tie.Need-narrow-requires
+narrow-requires c κs = search needs
 
 returns : tie.Need-returns
 unfolding registerOf
-returns c = refl
+returns c = c .narrow .ensures
 
 pub new-spec : {M : Type 1} → statement M
-new-spec = tie.close (tie.spec mul-result add-result add-result-2 returns)
+new-spec = tie.close (tie.spec mul-narrow add-narrow add-narrow-2 narrow-requires returns)

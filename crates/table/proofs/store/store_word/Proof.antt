@@ -1,7 +1,6 @@
--- `table::store::store_word` meets its contract: one assignment is `set`, and `set` is the next store of every list whose store it is.
+-- `table::store::store_word` meets its contract: one assignment is `set`.
 use mathlib.Core.Path.{refl}
 use borrow.Author.Needs.{needs}
-use Rattle.table.proofs.Stores.{steps-of-set}
 use Rattle.table.proofs.store.store_word.Statement.{statement}
 use Rattle.table.proofs.store.store_word.Tie as tie
 
@@ -15,7 +14,7 @@ same-length : tie.Need-same-length
 same-length c = search needs
 
 returns : tie.Need-returns
-returns c = record { sets = refl; steps = steps-of-set (c .args .words .now) _ (c .args .at) (c .args .word) refl }
+returns c = refl
 
 pub store-word-spec : {M : Type 1} → statement M
 store-word-spec = tie.close (tie.spec mul-words slice-write-words same-length returns)
