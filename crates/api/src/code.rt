@@ -18,8 +18,7 @@ ghost use Prim.Native.Nat.{ℕ, _<_, _^_};
 ghost use lib.ListN.{getD};
 ghost use Rattle.model.specs.Numbers.{if_then_else_};
 ghost use Rattle.model.specs.Access.{fault, causeOf, originalOf};
-ghost use Rattle.types.specs.Views.{kindOf, answerOf, fenceOf};
-ghost use Rattle.slots.specs.Outcomes.{replyOf};
+ghost use Rattle.types.specs.Views.{kindOf, answerOf, fenceOf, replyOf};
 ghost use Rattle.api.specs.Codes.{privilegeAt, kindAt, permissionAt, whoOf, whatOf, grantOf, answerWord, fenceWord, replyWord};
 
 pub fn who(code: u64) -> Who

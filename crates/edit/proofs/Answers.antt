@@ -13,7 +13,7 @@ use Rattle.entries.proofs.Runs.{run-whole, run-short}
 use Rattle.edit.specs.Done.{fenceAfter}
 use Rattle.edit.specs.Kinds.{wholeList}
 use Rattle.entries.specs.Run.{Out, whole, cut, runFrom, run}
-use Rattle.entries.specs.declared.Budget.{Budget}
+use Rattle.types.specs.declared.Budget.{Budget}
 use Rattle.laws.proofs.Choices.{split}
 use Rattle.model.specs.Fence.{noFence, domainFence, addressFence, inRoot, oneL1Store, fenceFor}
 use Rattle.model.specs.Forms.{Request, firstGib, forms}

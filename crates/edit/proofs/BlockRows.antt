@@ -13,7 +13,7 @@ use Rattle.edit.specs.Over.{storesOver, pagesOver}
 use Rattle.entries.specs.Ahead.{Ahead}
 use Rattle.entries.proofs.Order.{ahead-of, ahead-first}
 use Rattle.entries.specs.Rows.{changeAt, rowStores, piecesOf, piecesWord}
-use Rattle.forms.specs.declared.Gib.{Gib}
+use Rattle.types.specs.declared.Gib.{Gib}
 use Rattle.forms.specs.Kinds.{formAt}
 use Rattle.laws.proofs.Choices.{split}
 use Rattle.model.specs.Entry.{Entry, flat, pieces, table, invalid, decode, encode}

@@ -13,8 +13,8 @@ use Rattle.entries.proofs.Runs.{run-whole}
 use Rattle.edit.specs.Kinds.{storesAt, Fresh, wholeList}
 use Rattle.edit.specs.Over.{storesOver}
 use Rattle.entries.specs.Run.{Out, whole, cut, run}
-use Rattle.entries.specs.declared.Budget.{Budget}
-use Rattle.forms.specs.declared.Gib.{Gib}
+use Rattle.types.specs.declared.Budget.{Budget}
+use Rattle.types.specs.declared.Gib.{Gib}
 use Rattle.forms.specs.Kinds.{formAt, GibIs}
 use Rattle.laws.proofs.Choices.{split}
 use Rattle.model.specs.Entry.{Entry, perm}
@@ -38,7 +38,7 @@ use Rattle.edit.proofs.Fronts.{drop-tail}
 use Rattle.entries.proofs.Places.{frame-same}
 use Rattle.edit.proofs.Facts.{Facts, stores-same}
 use Rattle.types.specs.declared.Frame as code
-use Rattle.forms.specs.declared.Gib as gibs′
+use Rattle.types.specs.declared.Gib as gibs′
 use Rattle.table.specs.Board.{frameOf}
 
 module _ (f : code.Frame) (m0 : List ℕ) (q : Request) (root : ℕ) (free : List ℕ) (k : Facts f m0 q root free) (limit : Budget) where

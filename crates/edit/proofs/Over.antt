@@ -12,8 +12,8 @@ use Rattle.entries.proofs.Runs.{run-none, run-on, run-off}
 use Rattle.edit.specs.Kinds.{storesAt, wholeList}
 use Rattle.edit.specs.Over.{storesOver, pagesOver}
 use Rattle.entries.specs.Run.{Out, whole, cut, run}
-use Rattle.entries.specs.declared.Budget.{Budget}
-use Rattle.forms.specs.declared.Gib.{Gib}
+use Rattle.types.specs.declared.Budget.{Budget}
+use Rattle.types.specs.declared.Gib.{Gib}
 use Rattle.forms.specs.Kinds.{formAt, GibIs}
 use Rattle.laws.proofs.Choices.{split}
 use Rattle.model.specs.Entry.{Entry}

@@ -5,7 +5,7 @@ use mathlib.Core.List.{List}
 use Prim.Native.Nat.{ℕ, _+_, _*_, _/_, _^_, _≤_, _<_}
 use lib.ListN.{length}
 use Rattle.edit.specs.Kinds.{storesAt}
-use Rattle.forms.specs.declared.Gib.{Gib}
+use Rattle.types.specs.declared.Gib.{Gib}
 use Rattle.forms.specs.Kinds.{formAt}
 use Rattle.forms.proofs.FormLaws.{form-flat-out, form-pieces-out, form-not}
 use Rattle.model.specs.Entry.{flat, pieces, encode}

@@ -9,8 +9,8 @@ use Rattle.edit.specs.Over.{storesOver, pagesOver}
 use Rattle.entries.specs.Ahead.{Ahead}
 use Rattle.entries.proofs.Order.{ahead-of}
 use Rattle.entries.specs.Run.{Out, whole, cut, run}
-use Rattle.entries.specs.declared.Budget.{Budget}
-use Rattle.forms.specs.declared.Gib.{Gib}
+use Rattle.types.specs.declared.Budget.{Budget}
+use Rattle.types.specs.declared.Gib.{Gib}
 use Rattle.forms.specs.Kinds.{GibIs}
 use Rattle.model.specs.Forms.{Request, firstGib, gibs}
 use Rattle.model.specs.Frame.{Frame, blocks}
@@ -21,7 +21,7 @@ use Rattle.edit.proofs.Facts.{Facts}
 use Rattle.edit.proofs.Going.{Going, fresh, gib-back, gib-same, going-ahead, going-end, going-start, rooted, size}
 use Rattle.edit.proofs.Over.{Ends, going-over, over-same, pages-same}
 use Rattle.types.specs.declared.Frame as code
-use Rattle.forms.specs.declared.Gib as gibs′
+use Rattle.types.specs.declared.Gib as gibs′
 use Rattle.table.specs.Board.{frameOf}
 
 pub record Turn (f : code.Frame) (m0 : List ℕ) (q : Request) (root : ℕ) (free : List ℕ) (limit : Budget) (end : ℕ) (m : List ℕ) (b : ℕ) (gib : gibs′.Gib) (next : ℕ) (left : Budget) : Type 0 where

@@ -12,7 +12,7 @@ use Rattle.model.specs.Forms.{Request}
 use Rattle.model.specs.Stores.{Store, apply}
 use Rattle.model.specs.Fence as model
 use Rattle.types.specs.Views.{fenceOf}
-use Rattle.edit.specs.declared.Made.{Made}
+use Rattle.types.specs.declared.Made.{Made}
 
 -- the fence, from what the code counts: how many stores, whether that was all, and where the last one went
 unfoldable pub fenceAfter : Frame → Request → ℕ → ℕ → ℕ → Bool → ℕ → model.Fence

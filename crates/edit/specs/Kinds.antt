@@ -11,14 +11,9 @@ use Rattle.model.specs.Sound as tables
 use Rattle.model.specs.Forms as model
 use Rattle.model.specs.Stores as stores
 use Rattle.model.specs.Calls as calls
-use Rattle.forms.specs.declared.Gib.{Gib}
+use Rattle.types.specs.declared.Gib.{Gib}
 use Rattle.forms.specs.Kinds.{formAt}
-use Rattle.scan.specs.declared.Free.{Free}
 use Rattle.table.specs.Board.{board, ENTRY, INFO}
-
--- the free pages that an edit may take, lowest first: two at the most
-abbrev pub freeList : Free → List ℕ
-freeList free = take (free .count) (free .first .0 ∷ free .second .0 ∷ [])
 
 -- a form whose entry fits a word
 abbrev pub Encodes : model.Form → Type 0

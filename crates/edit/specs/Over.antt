@@ -6,10 +6,10 @@ use lib.ListN.{drop}
 use Rattle.model.specs.Frame as frame
 use Rattle.model.specs.Forms as model
 use Rattle.model.specs.Stores as stores
-use Rattle.forms.specs.declared.Gib.{Gib}
+use Rattle.types.specs.declared.Gib.{Gib}
 use Rattle.entries.specs.Run.{out, run}
-use Rattle.entries.specs.declared.Budget.{Budget}
-use Rattle.edit.specs.declared.Step.{Step}
+use Rattle.types.specs.declared.Budget.{Budget}
+use Rattle.types.specs.declared.Step.{Step}
 
 -- the stores of n blocks from b, all of the GiB that gib speaks of, and how many new pages they take
 abbrev pub storesOver : frame.Frame → List ℕ → model.Request → ℕ → Gib → ℕ → ℕ → List ℕ → List stores.Store

@@ -2,15 +2,16 @@
 pub mod block;
 
 use crate::block::next_blocks;
-use entries::Budget;
-use entries::Went;
-use forms::Gib;
+use types::Budget;
+use types::Went;
+use types::Gib;
 use forms::gibs::gib_at;
 use forms::words::page_at;
-use range::Request;
-use scan::Free;
+use types::Request;
+use types::Free;
 use types::Fence;
 use types::Frame;
+use types::Made;
 use types::PageNumber;
 use types::Sdid;
 use table::lent::block_count;
@@ -18,28 +19,12 @@ use table::board::Word;
 ghost use mathlib.Core.Path.{_≡_};
 ghost use mathlib.Core.Bool.{true};
 ghost use Rattle.edit.specs.Done.{fenceAfter, IsMade};
-ghost use Rattle.edit.specs.Kinds.{Accepted, wholeList, freeList};
+ghost use Rattle.edit.specs.Kinds.{Accepted, wholeList};
 ghost use Rattle.entries.specs.Run.{out, run};
-ghost use Rattle.range.specs.Kinds.{requestOf};
 ghost use Rattle.model.specs.Fence.{inRoot};
 ghost use Rattle.model.specs.Frame.{lent, boundsOk};
-ghost use Rattle.types.specs.Views.{fenceOf};
+ghost use Rattle.types.specs.Views.{fenceOf, requestOf, freeList};
 ghost use Rattle.table.specs.Board.{frameOf};
-
-// How some blocks went, the next new page, and how many blocks it was.
-pub struct Step {
-    pub left: Budget,
-    pub next: u64,
-    pub count: u64,
-    pub all: bool,
-}
-
-// What an edit answers: how many stores it made, whether that was all, and the fence.
-pub struct Made {
-    pub count: u64,
-    pub fence: Fence,
-    pub all: bool,
-}
 
 // The stores of an edit that no refusal fits, in order, up to the limit. free: the free pages, lowest first.
 pub fn stores(

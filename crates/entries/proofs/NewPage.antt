@@ -12,8 +12,8 @@ use Rattle.entries.specs.Ahead.{Ahead}
 use Rattle.entries.specs.Pages.{Plain, newRun}
 use Rattle.entries.specs.Rows.{fillStores}
 use Rattle.entries.specs.Run.{whole, out, run}
-use Rattle.entries.specs.declared.Budget.{Budget}
-use Rattle.entries.specs.declared.Went.{Went}
+use Rattle.types.specs.declared.Budget.{Budget}
+use Rattle.types.specs.declared.Went.{Went}
 use Rattle.model.specs.Entry.{Entry}
 use Rattle.model.specs.Forms.{Request, l1Word}
 use Rattle.model.specs.Frame.{Frame, lent, indexOf}

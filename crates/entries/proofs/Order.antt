@@ -12,7 +12,7 @@ use Rattle.theory.proofs.Along.{apply-append, apply-none}
 use Rattle.laws.proofs.Lists.{joined-append}
 use Rattle.entries.specs.Ahead.{Edit, listOf, leaves, Ahead, Turned}
 use Rattle.entries.specs.Run.{whole, cut, run}
-use Rattle.entries.specs.declared.Budget.{Budget}
+use Rattle.types.specs.declared.Budget.{Budget}
 use Rattle.entries.proofs.Runs.{run-none, run-on, run-off, run-whole}
 
 -- what the first stores leave

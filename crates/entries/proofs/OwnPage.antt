@@ -13,7 +13,7 @@ use Rattle.entries.proofs.Runs.{run-none, run-whole, joined-turn}
 use Rattle.entries.proofs.Order.{ahead-of, Way, way-start, way-end, way-ahead, way-next, way-cut}
 use Rattle.entries.specs.Ahead.{Ahead}
 use Rattle.entries.specs.Run.{Out, whole, cut, run}
-use Rattle.entries.specs.declared.Budget.{Budget}
+use Rattle.types.specs.declared.Budget.{Budget}
 use Rattle.forms.proofs.EntryLaws.{word-outside}
 use Rattle.laws.proofs.Choices.{split}
 use Rattle.model.specs.Entry.{table, clean}

@@ -13,7 +13,7 @@ use Rattle.table.specs.Board.{board, WORDS, FIELDS, frameOf}
 use Rattle.entries.specs.Pages.{Plain}
 use Rattle.entries.specs.Ahead.{Ahead}
 use Rattle.entries.specs.Run.{Out, run}
-use Rattle.entries.specs.declared.Budget.{Budget}
+use Rattle.types.specs.declared.Budget.{Budget}
 use Rattle.forms.proofs.Fields.{lent-in, index-add}
 use Rattle.forms.proofs.EntryLaws.{after-small, after-16}
 use Rattle.laws.proofs.Choices.{split}

@@ -11,7 +11,7 @@ use borrow.Author.Tests.{eqb-true, eqb-false}
 use Rattle.entries.specs.Ahead.{Ahead}
 use Rattle.entries.specs.Run.{Out, whole, cut, out, run}
 use Rattle.entries.specs.Rows.{changeAt, rowStores, fillStores, differs}
-use Rattle.entries.specs.declared.Budget.{Budget}
+use Rattle.types.specs.declared.Budget.{Budget}
 use Rattle.laws.proofs.Choices.{split, not-true-false}
 use Rattle.laws.proofs.Every.{every-in}
 use Rattle.model.specs.Numbers.{if_then_else_, joined, every}

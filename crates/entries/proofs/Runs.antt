@@ -8,8 +8,8 @@ use native.Mathlib.Numerals.{add-one}
 use lib.ListN.{length, take, set}
 use borrow.Author.Tests.{not-true, not-false}
 use Rattle.entries.specs.Run.{Out, whole, cut, out, andThen, runFrom, run}
-use Rattle.entries.specs.declared.Budget.{Budget}
-use Rattle.entries.specs.declared.Went.{Went}
+use Rattle.types.specs.declared.Budget.{Budget}
+use Rattle.types.specs.declared.Went.{Went}
 use Rattle.model.specs.Numbers.{joined}
 use Rattle.model.specs.Stores.{Store, apply}
 

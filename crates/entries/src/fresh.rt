@@ -1,13 +1,13 @@
 // The stores that fill a new L1 page.
-use crate::Budget;
-use crate::Went;
+use types::Budget;
+use types::Went;
 use crate::put::put;
 use crate::rows::fill;
 use forms::words::after_word;
 use forms::words::old_word;
 use forms::words::page_at;
-use range::Place;
-use range::Request;
+use types::Place;
+use types::Request;
 use range::pages::first_entry;
 use range::pages::past_entry;
 use types::Entry;
@@ -25,13 +25,13 @@ ghost use Rattle.table.specs.Board.{WORDS, FIELDS, frameOf};
 ghost use Rattle.entries.specs.Ahead.{Ahead};
 ghost use Rattle.entries.specs.Pages.{Plain, newRun};
 ghost use Rattle.entries.specs.Run.{out, run};
-ghost use Rattle.range.specs.Kinds.{requestOf, Fair, Lies, Past};
+ghost use Rattle.range.specs.Kinds.{Fair, Lies, Past};
 ghost use Rattle.model.specs.Forms.{l1Word};
 ghost use Rattle.forms.specs.Kinds.{oldWord};
 ghost use Rattle.model.specs.Frame as frame;
 ghost use Rattle.model.specs.Frame.{lent};
 ghost use Rattle.model.specs.Stores.{Store, storeAt, newTable};
-ghost use Rattle.types.specs.Views.{entryOf};
+ghost use Rattle.types.specs.Views.{entryOf, requestOf};
 ghost use Rattle.theory.specs.Rooted.{Good};
 
 // L1 entry i of block b, in the new page.

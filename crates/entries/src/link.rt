@@ -1,10 +1,10 @@
 // A block that gets a new L1 page: the stores that fill the page, and then the one that links it.
-use crate::Budget;
-use crate::Went;
+use types::Budget;
+use types::Went;
 use crate::fresh;
 use crate::put::put;
 use forms::words::page_at;
-use range::Request;
+use types::Request;
 use types::Entry;
 use types::Frame;
 use types::PageNumber;
@@ -19,11 +19,11 @@ ghost use Rattle.table.specs.Board.{board, frameOf};
 ghost use Rattle.entries.specs.Ahead.{Ahead};
 ghost use Rattle.entries.specs.Pages.{Plain};
 ghost use Rattle.entries.specs.Run.{out, run};
-ghost use Rattle.range.specs.Kinds.{requestOf, Fair};
+ghost use Rattle.range.specs.Kinds.{Fair};
 ghost use Rattle.model.specs.Entry.{table, encode};
 ghost use Rattle.model.specs.Frame.{lent};
 ghost use Rattle.model.specs.Stores.{Store, storeL2, linkTable};
-ghost use Rattle.types.specs.Views.{entryOf};
+ghost use Rattle.types.specs.Views.{entryOf, requestOf};
 ghost use Rattle.theory.specs.Rooted.{Good};
 
 // The L2 entry of block b that names the page.

@@ -1,11 +1,11 @@
 // The stores of a block that has an L1 page of its own, and keeps it.
-use crate::Budget;
-use crate::Went;
+use types::Budget;
+use types::Went;
 use crate::put::put_changed;
 use forms::words::after_word;
 use forms::words::page_at;
-use range::Place;
-use range::Request;
+use types::Place;
+use types::Request;
 use range::pages::first_entry;
 use range::pages::lies;
 use range::pages::past_entry;
@@ -20,10 +20,11 @@ ghost use Prim.Native.Nat.{_<_};
 ghost use Rattle.table.specs.Board.{WORDS, frameOf};
 ghost use Rattle.entries.specs.Ahead.{Ahead};
 ghost use Rattle.entries.specs.Run.{out, run};
-ghost use Rattle.range.specs.Kinds.{requestOf, Fair};
+ghost use Rattle.range.specs.Kinds.{Fair};
 ghost use Rattle.model.specs.Forms.{l1Word};
 ghost use Rattle.model.specs.Stores.{Store, ifChanged, sameTable};
 ghost use Rattle.theory.specs.Rooted.{Good};
+ghost use Rattle.types.specs.Views.{requestOf};
 ghost use Rattle.model.specs.Entry as entry;
 
 // L1 entry i of block b, in the block's own page t.

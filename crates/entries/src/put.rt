@@ -1,6 +1,6 @@
 // One store, if the limit allows one more.
-use crate::Budget;
-use crate::Went;
+use types::Budget;
+use types::Went;
 use table::store::store_word;
 use table::board::Word;
 ghost use mathlib.Core.Path.{_≡_};

@@ -1,7 +1,7 @@
 // Rows: neighbouring entries of a root, each stored if it changes.
-use crate::Budget;
-use crate::Row;
-use crate::Went;
+use types::Budget;
+use types::Row;
+use types::Went;
 use crate::put::put_changed;
 use crate::put::put_next;
 use types::Entry;

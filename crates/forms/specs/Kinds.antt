@@ -13,15 +13,8 @@ use Rattle.model.specs.Stores as stores
 use Rattle.model.specs.Calls as calls
 use Rattle.theory.specs.Rooted.{Rooted}
 use Rattle.table.specs.Board.{PIECES, PIECE, ROW, EACH}
-use Rattle.forms.specs.declared.Form.{Form}
-use Rattle.forms.specs.declared.Form.the-variants.{Flat, Pieces, Table}
-use Rattle.forms.specs.declared.Gib.{Gib}
-use Rattle.forms.specs.declared.Piece.{Piece}
-
-abbrev pub formOf : Form → model.Form
-formOf (Flat p) = model.wantFlat p
-formOf (Pieces i) = model.wantPieces i
-formOf Table = model.wantTable
+use Rattle.types.specs.declared.Gib.{Gib}
+use Rattle.types.specs.declared.Piece.{Piece}
 
 -- an L1 entry whose fields are all p
 abbrev pub spreadOf : ℕ → ℕ

@@ -1,10 +1,10 @@
 // The finished form of one block.
-use crate::Form;
+use types::Form;
 use crate::even::even_form;
 use crate::pieces::piece_at;
 use crate::words::page_at;
-use range::Place;
-use range::Request;
+use types::Place;
+use types::Request;
 use range::pages::lies;
 use types::Entry;
 use types::Frame;
@@ -20,14 +20,13 @@ use table::store::read_word;
 ghost use mathlib.Core.Path.{_≡_};
 ghost use mathlib.Core.Bool.{true, false};
 ghost use Prim.Native.Nat.{_+_, _*_, _<_};
-ghost use Rattle.range.specs.Kinds.{requestOf, Fair, Lies};
+ghost use Rattle.range.specs.Kinds.{Fair, Lies};
 ghost use Rattle.table.specs.Board.{PIECES, PIECE, frameOf};
-ghost use Rattle.forms.specs.Kinds.{formOf};
 ghost use Rattle.model.specs.Forms.{formIn, afterIn, allAre};
 ghost use Rattle.model.specs.Frame.{lent};
 ghost use Rattle.model.specs.Stores.{needsPage};
 ghost use Rattle.model.specs.Walk.{entryAt};
-ghost use Rattle.types.specs.Views.{entryOf};
+ghost use Rattle.types.specs.Views.{entryOf, requestOf, formOf};
 ghost use Rattle.theory.specs.Rooted.{Good};
 
 // The finished form of block b in a GiB that is not of one permission.

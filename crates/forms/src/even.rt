@@ -1,7 +1,7 @@
 // A block that is read without an L1 page: its pieces are each of one permission before the edit, and info has them.
-use crate::Form;
+use types::Form;
 use crate::words::splice;
-use range::Request;
+use types::Request;
 use range::pages::cut;
 use types::Entry;
 use types::Frame;
@@ -14,11 +14,11 @@ use table::board::Word;
 ghost use mathlib.Core.Path.{_≡_};
 ghost use mathlib.Core.Bool.{false};
 ghost use Prim.Native.Nat.{_<_, _^_};
-ghost use Rattle.range.specs.Kinds.{requestOf, Fair};
+ghost use Rattle.range.specs.Kinds.{Fair};
 ghost use Rattle.table.specs.Board.{INFO, frameOf};
-ghost use Rattle.forms.specs.Kinds.{formOf, Even, Mixes};
+ghost use Rattle.forms.specs.Kinds.{Even, Mixes};
 ghost use Rattle.model.specs.Forms.{formIn};
-ghost use Rattle.types.specs.Views.{entryOf};
+ghost use Rattle.types.specs.Views.{entryOf, requestOf, formOf};
 ghost use Rattle.theory.specs.Rooted.{Good};
 
 // A piece with pages in the range and pages outside it becomes mixed, unless it has the asked permission already.

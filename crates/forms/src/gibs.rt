@@ -1,13 +1,13 @@
 // The GiBs that a range touches, and the new pages that the whole edit takes.
-use crate::Form;
-use crate::Gib;
+use types::Form;
+use types::Gib;
 use crate::blocks::block_form;
 use crate::blocks::entry_at;
 use crate::blocks::needs_page;
 use crate::pieces::block_is;
 use crate::pieces::piece_first;
-use range::Place;
-use range::Request;
+use types::Place;
+use types::Request;
 use range::pages::lies;
 use range::pages::meets;
 use types::Frame;
@@ -18,7 +18,7 @@ ghost use mathlib.Core.Path.{_≡_};
 ghost use mathlib.Core.Bool.{false, _&&_};
 ghost use lib.Dec.{eqb};
 ghost use Prim.Native.Nat.{_+_, _*_, _/_, _%_, _≤_, _<_};
-ghost use Rattle.range.specs.Kinds.{requestOf, Fair};
+ghost use Rattle.range.specs.Kinds.{Fair};
 ghost use Rattle.table.specs.Board.{PIECEBYTES, frameOf};
 ghost use Rattle.forms.specs.Kinds.{GibIs, Ranged, wholePages};
 ghost use Rattle.model.specs.Forms.{formIn, gibFirst, gibIsOne};
@@ -27,6 +27,7 @@ ghost use Rattle.model.specs.Numbers.{if_then_else_};
 ghost use Rattle.model.specs.Stores.{needsPage};
 ghost use Rattle.model.specs.Walk.{entryAt};
 ghost use Rattle.theory.specs.Rooted.{Rooted};
+ghost use Rattle.types.specs.Views.{requestOf};
 
 // All blocks of GiB g are of permission p.
 pub fn blocks_are(f: Frame, words: &[Word], q: Request, root: PageNumber, g: u64, p: u64) -> bool

@@ -1,11 +1,11 @@
 // Pieces of a block, and whole blocks: are they of one permission once the edit is whole?
-use crate::Piece;
+use types::Piece;
 use crate::words::after_word;
 use crate::words::old_word;
 use crate::words::page_at;
 use crate::words::spread;
-use range::Place;
-use range::Request;
+use types::Place;
+use types::Request;
 use range::pages::lies;
 use types::Entry;
 use types::Frame;
@@ -21,12 +21,12 @@ ghost use mathlib.Core.Path.{_≡_};
 ghost use Prim.Native.Nat.{_+_, _*_, _≤_, _<_};
 ghost use lib.Dec.{eqb};
 ghost use lib.ListN.{length, getD};
-ghost use Rattle.range.specs.Kinds.{requestOf, Fair, Lies};
+ghost use Rattle.range.specs.Kinds.{Fair, Lies};
 ghost use Rattle.table.specs.Board.{WORDS, FIELDS, PIECES, PIECE, ROW, frameOf};
 ghost use Rattle.forms.specs.Kinds.{PieceIs};
 ghost use Rattle.model.specs.Forms.{allAre, afterIn};
 ghost use Rattle.model.specs.Numbers.{every};
-ghost use Rattle.types.specs.Views.{entryOf};
+ghost use Rattle.types.specs.Views.{entryOf, requestOf};
 ghost use Rattle.theory.specs.Rooted.{Good};
 
 // The 32 L1 entries from entry i of block b are all of permission p, once the edit is whole.

@@ -1,6 +1,6 @@
 // L1 entries, as they stand and once the edit is whole.
-use range::Place;
-use range::Request;
+use types::Place;
+use types::Request;
 use range::pages::cut;
 use range::pages::lies;
 use types::Entry;
@@ -17,13 +17,13 @@ ghost use mathlib.Core.Path.{_≡_};
 ghost use mathlib.Core.Bool.{true};
 ghost use Prim.Native.Nat.{_+_, _*_, _/_, _%_, _≤_, _<_, _^_};
 ghost use lib.ListN.{length};
-ghost use Rattle.range.specs.Kinds.{requestOf, Fair};
+ghost use Rattle.range.specs.Kinds.{Fair};
 ghost use Rattle.table.specs.Board.{WORDS, FIELDS, frameOf, ENTRY};
 ghost use Rattle.forms.specs.Kinds.{spreadOf, oldWord, mixedAt};
 ghost use Rattle.model.specs.Forms.{l1Word};
 ghost use Rattle.model.specs.Frame.{lent, indexOf};
 ghost use Rattle.model.specs.Numbers.{pack};
-ghost use Rattle.types.specs.Views.{entryOf};
+ghost use Rattle.types.specs.Views.{entryOf, requestOf};
 ghost use Rattle.theory.specs.Rooted.{Good};
 
 // An L1 entry whose fields are all p.

@@ -13,12 +13,12 @@ use Rattle.model.specs.Forms.{Request, forms, firstGib}
 use Rattle.model.specs.Stores.{Store, newPages}
 use Rattle.model.specs.Calls.{Outcome, edited, firstMet, registerFor, rootOf, refuse, badRange, meetsLent, finished, editRefusalWith, editRefusal, storeList, made, editWith, editSlot}
 use Rattle.types.specs.Views.{fenceOf}
-use Rattle.edit.specs.declared.Made.{Made}
+use Rattle.types.specs.declared.Made.{Made}
 use Rattle.edit.specs.Done.{IsMade}
 use Rattle.slots.specs.Named.{notOpen}
 use Rattle.slots.specs.Outcomes.{outcomeOf}
 use Rattle.slots.specs.declared.Outcome as code
-use Rattle.slots.specs.declared.Reply.the-variants.{Edited}
+use Rattle.types.specs.declared.Reply.the-variants.{Edited}
 
 module _ (F : Frame) (m : List ℕ) (slots : List Slot) (q : Request) where
   -- the whole edit needs more new pages than are free

@@ -6,7 +6,7 @@ use native.Mathlib.Omega.{arith}
 use lib.Dec.{ltb}
 use lib.ListN.{length, take, length-take}
 use borrow.Author.Tests.{ltb-true, ltb-false, lt-ltb, le-ltb}
-use Rattle.edit.specs.Kinds.{freeList}
+use Rattle.types.specs.Views.{freeList}
 use Rattle.laws.proofs.Choices.{split}
 use Rattle.scan.specs.Free.{listed}
 

@@ -24,11 +24,10 @@ use Rattle.theory.proofs.Demands.{demand2, demand3, edit-stopped, one-more, mos
 use Rattle.types.specs.declared.Frame.{Frame}
 use Rattle.types.specs.declared.Permission.{Permission}
 use Rattle.types.specs.declared.Permission.the-variants.{None, Rx, Rw, Rwx}
-use Rattle.types.specs.Views.{permissionNumber}
+use Rattle.types.specs.Views.{permissionNumber, replyOf}
 use Rattle.slots.specs.declared.Outcome.{Outcome}
-use Rattle.slots.specs.declared.Reply.{Reply}
-use Rattle.slots.specs.declared.Reply.the-variants.{Refused, Opened, Closed, Edited}
-use Rattle.slots.specs.Outcomes.{replyOf}
+use Rattle.types.specs.declared.Reply.{Reply}
+use Rattle.types.specs.declared.Reply.the-variants.{Refused, Opened, Closed, Edited}
 use Rattle.monitor.specs.Promise.{After, Call, Ending, Kept, request, reset, returned}
 use Rattle.table.specs.Board.{board, WORDS, ENTRY, frameOf, frameOver}
 use Rattle.range.proofs.Lawful.{board-lawful}

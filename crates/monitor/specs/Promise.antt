@@ -10,7 +10,7 @@ use Rattle.types.specs.declared.Frame.{Frame}
 use Rattle.types.specs.declared.Permission.{Permission}
 use Rattle.types.specs.Views.{permissionNumber}
 use Rattle.slots.specs.declared.Outcome.{Outcome}
-use Rattle.slots.specs.declared.Reply.the-variants.{Edited}
+use Rattle.types.specs.declared.Reply.the-variants.{Edited}
 use Rattle.slots.specs.Outcomes.{outcomeOf}
 use Rattle.monitor.specs.Edits.{asked}
 use Rattle.table.specs.Board.{board, frameOf}

@@ -4,12 +4,9 @@ use mathlib.Core.Bool.{Bool, true, false}
 use Prim.Native.Nat.{ℕ, _+_, _-_, _*_, _≤_, _<_, _^_}
 use Rattle.model.specs.Forms as model
 use Rattle.table.specs.Board.{FIELDS}
-use Rattle.range.specs.declared.Request.{Request}
-use Rattle.range.specs.declared.Place.{Place}
-use Rattle.range.specs.declared.Place.the-variants.{Inside, Outside, Across}
-
-abbrev pub requestOf : Request → model.Request
-requestOf q = record { slot = q .slot; start = q .start .0; size = q .size; permission = q .permission }
+use Rattle.types.specs.declared.Request.{Request}
+use Rattle.types.specs.declared.Place.{Place}
+use Rattle.types.specs.declared.Place.the-variants.{Inside, Outside, Across}
 
 -- a permission is one of four, and the range ends within the widest address space
 pub record Fair (q : Request) : Type 0 where

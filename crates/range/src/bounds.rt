@@ -1,5 +1,5 @@
 // Whether an edit may have its range: the two tests that document 01 makes of it.
-use crate::Request;
+use types::Request;
 use types::Frame;
 use table::board::PAGE_WORDS;
 use table::lent::pow2;
@@ -9,7 +9,7 @@ ghost use lib.Dec.{eqb};
 ghost use Rattle.model.specs.Frame.{boundsOk};
 ghost use Rattle.model.specs.Calls.{badRange, meetsLent};
 ghost use Rattle.table.specs.Board.{frameOver};
-ghost use Rattle.range.specs.Kinds.{requestOf};
+ghost use Rattle.types.specs.Views.{requestOf};
 
 // "Length 0, start or length not a multiple of 4,096, or start + length (no wrap) above 2^PAW."
 pub fn bad_range(f: Frame, n: usize, q: Request) -> bool

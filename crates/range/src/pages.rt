@@ -1,11 +1,12 @@
 // Where pages lie, seen from the range of an edit.
-use crate::Place;
-use crate::Request;
+use types::Place;
+use types::Request;
 use table::board::FIELDS;
 use table::board::PAGE_WORDS;
 ghost use Rattle.table.specs.Board.{WORDS};
 ghost use Prim.Native.Nat.{_+_, _≤_, _<_, _^_};
-ghost use Rattle.range.specs.Kinds.{requestOf, Fair, Lies, Meets, Cut, Below, Past};
+ghost use Rattle.range.specs.Kinds.{Fair, Lies, Meets, Cut, Below, Past};
+ghost use Rattle.types.specs.Views.{requestOf};
 
 // The bytes that an L1 entry speaks for.
 const ENTRY_BYTES: u64 = FIELDS * 4096;

@@ -5,7 +5,7 @@ use Prim.Native.Nat.{ℕ, _-_}
 use lib.ListN.{length, take, getD}
 use Rattle.model.specs.Numbers.{if_then_else_, joined}
 use Rattle.model.specs.Frame.{Frame}
-use Rattle.scan.specs.declared.Free.{Free}
+use Rattle.types.specs.declared.Free.{Free}
 
 -- the lent pages whose marks are not set, lowest first
 abbrev pub clearAt : ℕ → List Bool → ℕ → List ℕ

@@ -4,17 +4,9 @@ use Prim.Native.Nat.{ℕ}
 use Rattle.model.specs.Calls as calls
 use Rattle.types.specs.declared.Refusal.{Refusal}
 use Rattle.types.specs.declared.Fence.the-variants.{Nothing}
-use Rattle.types.specs.Views.{refusalNumber, fenceOf}
-use Rattle.slots.specs.declared.Reply.{Reply}
-use Rattle.slots.specs.declared.Reply.the-variants.{Refused, Opened, Closed, Edited}
+use Rattle.types.specs.Views.{replyOf, fenceOf}
+use Rattle.types.specs.declared.Reply.the-variants.{Refused}
 use Rattle.slots.specs.declared.Outcome.{Outcome}
-
--- a refusal by its number
-abbrev pub replyOf : Reply → calls.Reply
-replyOf (Refused r) = calls.refusedWith (refusalNumber r)
-replyOf Opened = calls.opened
-replyOf Closed = calls.closed
-replyOf (Edited count all) = calls.edited count all
 
 abbrev pub outcomeOf : Outcome → List ℕ → calls.Outcome
 outcomeOf o m = record { reply = replyOf (o .reply); memory = m; slots = o .slots; fence = fenceOf (o .fence) }

@@ -13,6 +13,7 @@ use types::Fence;
 use types::Frame;
 use types::PageNumber;
 use types::Refusal;
+use types::Reply;
 use types::Sdid;
 use table::lent;
 use table::register;
@@ -24,14 +25,6 @@ ghost use Rattle.model.specs.Frame as frame;
 ghost use Rattle.model.specs.Calls as calls;
 ghost use Rattle.slots.specs.Outcomes.{outcomeOf, refusedWith};
 ghost use Rattle.table.specs.Board.{frameOf};
-
-pub enum Reply {
-    Refused(Refusal),
-    Opened,
-    Closed,
-    // How many stores were made, and whether that was all.
-    Edited(u64, bool),
-}
 
 // What a call leaves, beside the lent memory.
 pub struct Outcome {

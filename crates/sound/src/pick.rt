@@ -1,5 +1,5 @@
 // The free pages, from the marks alone.
-use scan::Free;
+use types::Free;
 use types::Frame;
 use types::PageNumber;
 use table::board::PAGE_WORDS;

@@ -1,9 +1,13 @@
 -- The code's types as the model's: one view for each, with document 01's numbers.
+use mathlib.Core.List.{List, [], _∷_}
 use Prim.Native.Nat.{ℕ}
+use lib.ListN.{take}
 use Rattle.model.specs.Entry as entry
 use Rattle.model.specs.Access as access
 use Rattle.model.specs.Lookup as lookup
 use Rattle.model.specs.Fence as fence
+use Rattle.model.specs.Forms as model
+use Rattle.model.specs.Calls as calls
 use Rattle.types.specs.declared.Permission.{Permission}
 use Rattle.types.specs.declared.Permission.the-variants.{None, Rx, Rw, Rwx}
 use Rattle.types.specs.declared.Need.{Need}
@@ -26,6 +30,12 @@ use Rattle.types.specs.declared.Entry.{Entry}
 use Rattle.types.specs.declared.Entry.the-variants.{Flat, Pieces, Table, Invalid}
 use Rattle.types.specs.declared.Found.{Found}
 use Rattle.types.specs.declared.Found.the-variants as found
+use Rattle.types.specs.declared.Request.{Request}
+use Rattle.types.specs.declared.Reply.{Reply}
+use Rattle.types.specs.declared.Reply.the-variants as reply
+use Rattle.types.specs.declared.Form.{Form}
+use Rattle.types.specs.declared.Form.the-variants as form
+use Rattle.types.specs.declared.Free.{Free}
 
 -- "00 none, 01 rx, 10 rw, 11 rwx"
 abbrev pub permissionNumber : Permission → ℕ
@@ -95,3 +105,24 @@ entryOf Invalid = entry.invalid
 abbrev pub foundOf : Found → entry.Found
 foundOf (found.Grant p) = entry.perm (permissionNumber p)
 foundOf found.Fault = entry.faults
+
+-- what an edit asks
+abbrev pub requestOf : Request → model.Request
+requestOf q = record { slot = q .slot; start = q .start .0; size = q .size; permission = q .permission }
+
+-- the finished form of a block
+abbrev pub formOf : Form → model.Form
+formOf (form.Flat p) = model.wantFlat p
+formOf (form.Pieces info) = model.wantPieces info
+formOf form.Table = model.wantTable
+
+-- what a call answers: a refusal by its number
+abbrev pub replyOf : Reply → calls.Reply
+replyOf (reply.Refused r) = calls.refusedWith (refusalNumber r)
+replyOf reply.Opened = calls.opened
+replyOf reply.Closed = calls.closed
+replyOf (reply.Edited count all) = calls.edited count all
+
+-- the free pages that an edit may take, lowest first: two at the most
+abbrev pub freeList : Free → List ℕ
+freeList free = take (free .count) (free .first .0 ∷ free .second .0 ∷ [])

@@ -94,3 +94,101 @@ pub enum Found {
     Grant(Permission),
     Fault,
 }
+
+// ---- calls
+
+// What an edit asks. The permission is its two bits, as an entry holds them.
+pub struct Request {
+    pub slot: u64,
+    pub start: Address,
+    pub size: u64,
+    pub permission: u64,
+}
+
+// An edit: its frame, what it asks, and the root page of its slot.
+pub struct Edit {
+    pub f: Frame,
+    pub q: Request,
+    pub root: PageNumber,
+}
+
+// What a call answers, beside the fence.
+pub enum Reply {
+    Refused(Refusal),
+    Opened,
+    Closed,
+    // How many stores were made, and whether that was all.
+    Edited(u64, bool),
+}
+
+// ---- blocks
+
+// Where a run of pages lies, seen from the range.
+pub enum Place {
+    Inside,
+    Outside,
+    Across,
+}
+
+// The finished form of a block.
+pub enum Form {
+    Flat(u64),
+    Pieces(u64),
+    Table,
+}
+
+// Whether a piece is of one permission once the edit is whole, and the permission of its first page.
+pub struct Piece {
+    pub one: bool,
+    pub p: u64,
+}
+
+// Whether a GiB is of one permission once the edit is whole, and the permission of its first page.
+pub struct Gib {
+    pub one: bool,
+    pub p: u64,
+}
+
+// ---- stores up to a limit
+
+// How many more stores may be made, and which word the last one went to.
+pub struct Budget {
+    pub more: u64,
+    pub last: usize,
+}
+
+// How the stores went: all were made, and what is left; or the limit cut them.
+pub struct Went {
+    pub left: Budget,
+    pub all: bool,
+}
+
+// How a row of entries went, and how many of them it was.
+pub struct Row {
+    pub left: Budget,
+    pub count: usize,
+    pub all: bool,
+}
+
+// How some blocks went, the next new page, and how many blocks it was.
+pub struct Step {
+    pub left: Budget,
+    pub next: u64,
+    pub count: u64,
+    pub all: bool,
+}
+
+// What an edit answers: how many stores it made, whether that was all, and the fence.
+pub struct Made {
+    pub count: u64,
+    pub fence: Fence,
+    pub all: bool,
+}
+
+// The two lowest of the free pages, and how many of these two there are: an edit takes no more than two. Page 0, which is never lent,
+// stands for none.
+pub struct Free {
+    pub count: u64,
+    pub first: PageNumber,
+    pub second: PageNumber,
+}

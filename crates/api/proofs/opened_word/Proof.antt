@@ -2,8 +2,7 @@
 use mathlib.Core.Path.{ap, _∙_}
 use borrow.Author.Needs.{needs}
 use Rattle.api.specs.Codes.{replyWord}
-use Rattle.slots.specs.Outcomes.{replyOf}
-use Rattle.types.specs.Views.{fenceOf}
+use Rattle.types.specs.Views.{fenceOf, replyOf}
 use Rattle.api.proofs.opened_word.Statement.{statement}
 use Rattle.api.proofs.opened_word.Tie as tie
 

@@ -11,11 +11,10 @@ use Rattle.entries.proofs.Places.{frame-same}
 use Rattle.edit.proofs.Facts.{root-lent, bounds-in}
 use Rattle.entries.proofs.Runs.{out-whole, out-cut}
 use Rattle.edit.specs.Done.{fenceAfter}
-use Rattle.edit.specs.Kinds.{wholeList, Accepted, freeList}
+use Rattle.edit.specs.Kinds.{wholeList, Accepted}
 use Rattle.entries.specs.Run.{whole, cut, out, run}
-use Rattle.range.specs.Kinds.{requestOf}
 use Rattle.model.specs.Stores.{Store}
-use Rattle.types.specs.Views.{fenceOf}
+use Rattle.types.specs.Views.{fenceOf, requestOf, freeList}
 use Rattle.edit.proofs.make.Statement.{statement}
 use Rattle.edit.proofs.make.Tie as tie
 use Rattle.table.specs.Board.{frameOf}

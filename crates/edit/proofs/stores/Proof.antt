@@ -1,6 +1,6 @@
 use mathlib.Core.List.{List}
 use Rattle.types.specs.declared.Frame as code
-use Rattle.range.specs.declared.Request as code′
+use Rattle.types.specs.declared.Request as code′
 use mathlib.Core.Path.{_≡_, refl, sym, ap, ap₂, _∙_, subst}
 use mathlib.Core.Bool.{Bool, true, false}
 use Prim.Native.Nat.{ℕ, _+_, _-_, _*_, _/_, _≤_, _<_}
@@ -11,10 +11,10 @@ use Rattle.edit.proofs.Facts.{Facts, facts}
 use Rattle.edit.proofs.Turns.{Turn, turn-start, turn-rooted, turn-room, turn-flag, turn-fresh, turn-ahead, turn-cut, turn-next, turn-end}
 use Rattle.edit.proofs.Going.{size}
 use Rattle.entries.proofs.Runs.{out-whole, out-cut}
-use Rattle.forms.specs.declared.Gib.{Gib}
-use Rattle.edit.specs.Kinds.{freeList}
-use Rattle.range.specs.Kinds.{requestOf, Fair}
+use Rattle.types.specs.declared.Gib.{Gib}
+use Rattle.range.specs.Kinds.{Fair}
 use Rattle.edit.proofs.stores.Statement.{statement}
+use Rattle.types.specs.Views.{requestOf, freeList}
 use Rattle.edit.proofs.stores.Tie as tie
 
 abbrev Inv-loop : tie.InvT-loop

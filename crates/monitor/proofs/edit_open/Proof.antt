@@ -15,11 +15,11 @@ use Rattle.model.specs.Forms.{Request}
 use Rattle.model.specs.Stores.{Store}
 use Rattle.model.specs.Calls.{slotAt, registerFor, rootOf, refuse, badRange, meetsLent, editRefusal, storeList}
 use Rattle.laws.proofs.Frames.{framed}
-use Rattle.scan.specs.declared.Free.{Free}
+use Rattle.types.specs.declared.Free.{Free}
 use Rattle.scan.specs.Free.{listed}
-use Rattle.range.specs.Kinds.{requestOf}
+use Rattle.types.specs.Views.{requestOf, freeList}
 use Rattle.forms.specs.Kinds.{wholePages}
-use Rattle.edit.specs.Kinds.{Accepted, freeList}
+use Rattle.edit.specs.Kinds.{Accepted}
 use Rattle.edit.specs.Done.{IsMade}
 use Rattle.edit.proofs.Facts.{accepted-list}
 use Rattle.theory.specs.Rooted.{Rooted}

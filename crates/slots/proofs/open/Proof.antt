@@ -15,7 +15,7 @@ use Rattle.model.specs.Calls as calls
 use Rattle.model.specs.Calls.{refuse}
 use Rattle.laws.proofs.Frames.{framed, bounds}
 use Rattle.scan.specs.declared.Checked.{Checked}
-use Rattle.scan.specs.declared.Free.{Free}
+use Rattle.types.specs.declared.Free.{Free}
 use Rattle.scan.specs.Free.{clearPages, listed}
 use Rattle.scan.proofs.Laws.{says-sound, checked-free, free-lent, head-lent}
 use Rattle.slots.specs.Named.{notEmpty, badSdid}

@@ -3,11 +3,10 @@ use Prim.Native.Nat.{ℕ, _<_, _^_}
 use native.Mathlib.Omega.{arith}
 use borrow.Author.Needs.{needs}
 use Rattle.edit.specs.Kinds.{Encodes}
-use Rattle.forms.specs.Kinds.{formOf}
 use Rattle.model.specs.Entry.{encode}
 use Rattle.model.specs.Forms.{wantTable}
 use Rattle.model.specs.Stores.{needsPage, blockStores}
-use Rattle.types.specs.Views.{entryOf}
+use Rattle.types.specs.Views.{entryOf, formOf}
 use Rattle.edit.proofs.block.block_stores.Statement.{statement}
 use Rattle.edit.proofs.block.block_stores.Tie as tie
 use Rattle.table.specs.Board.{INFO}

@@ -4,14 +4,13 @@ use Prim.Native.Nat.{ℕ, _+_, _-_, _*_, _%_, _≤_, _<_}
 use native.Mathlib.Omega.{arith}
 use lib.ListN.{drop}
 use Rattle.edit.proofs.BlockRows.{row-stores, row-pages, flat-entry}
-use Rattle.edit.specs.Kinds.{freeList}
 use Rattle.entries.specs.Rows.{rowStores}
 use Rattle.edit.specs.Over.{storesOver}
 use Rattle.entries.specs.Ahead.{Ahead}
 use Rattle.entries.proofs.Order.{ahead-of}
 use Rattle.entries.specs.Run.{run}
 use Rattle.entries.proofs.Places.{place}
-use Rattle.range.specs.Kinds.{requestOf}
+use Rattle.types.specs.Views.{requestOf, freeList}
 use Rattle.model.specs.Stores.{Store}
 use borrow.Author.Needs.{needs}
 use Rattle.edit.proofs.block.flat_blocks.Statement.{statement}

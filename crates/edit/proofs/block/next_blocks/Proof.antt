@@ -3,10 +3,9 @@ use lib.ListN.{drop}
 use native.Mathlib.Omega.{arith}
 use borrow.Author.Needs.{needs}
 use Rattle.edit.proofs.BlockRows.{ahead-over}
-use Rattle.edit.specs.Kinds.{freeList}
 use Rattle.edit.specs.Over.{storesOver}
 use Rattle.entries.specs.Ahead.{Ahead}
-use Rattle.range.specs.Kinds.{requestOf}
+use Rattle.types.specs.Views.{requestOf, freeList}
 use Rattle.table.specs.Board.{frameOf}
 use Rattle.edit.proofs.block.next_blocks.Statement.{statement}
 use Rattle.edit.proofs.block.next_blocks.Tie as tie

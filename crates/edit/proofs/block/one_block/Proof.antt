@@ -10,15 +10,14 @@ use Rattle.model.specs.Frame.{lent}
 use borrow.Author.Needs.{needs}
 use Rattle.edit.proofs.Facts.{form-encodes}
 use Rattle.edit.proofs.BlockRows.{over-one, pages-one}
-use Rattle.edit.specs.Kinds.{Encodes, storesAt, freeList}
+use Rattle.edit.specs.Kinds.{Encodes, storesAt}
 use Rattle.edit.specs.Over.{storesOver}
 use Rattle.entries.proofs.Order.{ahead-of}
 use Rattle.entries.specs.Run.{run}
-use Rattle.range.specs.Kinds.{requestOf}
-use Rattle.forms.specs.Kinds.{formOf, formAt}
+use Rattle.forms.specs.Kinds.{formAt}
 use Rattle.model.specs.Entry.{Entry}
 use Rattle.model.specs.Numbers.{if_then_else_}
-use Rattle.types.specs.Views.{entryOf}
+use Rattle.types.specs.Views.{entryOf, requestOf, formOf, freeList}
 use Rattle.theory.specs.Rooted.{Good}
 use Rattle.edit.proofs.block.one_block.Statement.{statement}
 use Rattle.edit.proofs.block.one_block.Tie as tie

@@ -5,14 +5,14 @@ use native.Mathlib.Omega.{arith}
 use lib.ListN.{drop, getD}
 use Rattle.edit.proofs.BlockRows.{Entrywise, ahead-over, row-stores, row-pages, pieces-entry}
 use Rattle.entries.proofs.RowLaws.{row-none}
-use Rattle.edit.specs.Kinds.{freeList, Fresh}
+use Rattle.edit.specs.Kinds.{Fresh}
 use Rattle.edit.specs.Over.{Did, storesOver}
 use Rattle.entries.specs.Ahead.{Ahead}
 use Rattle.entries.proofs.Order.{ahead-of}
 use Rattle.entries.specs.Rows.{rowStores, piecesWord, PiecesAhead}
 use Rattle.entries.specs.Run.{run}
 use Rattle.entries.proofs.Places.{place}
-use Rattle.range.specs.Kinds.{requestOf, Fair}
+use Rattle.range.specs.Kinds.{Fair}
 use Rattle.model.specs.Frame.{blocks, indexOf}
 use Rattle.model.specs.Stores.{Store}
 use Rattle.theory.specs.Rooted.{Rooted}
@@ -25,6 +25,7 @@ use Rattle.edit.proofs.block.one_block.Reads as one-block-reads
 use Rattle.entries.proofs.rows.pieces_row.Reads as pieces-row-reads
 use Rattle.forms.proofs.words.page_at.Reads as page-at-reads
 use Rattle.table.specs.Board.{INFO, frameOf}
+use Rattle.types.specs.Views.{requestOf, freeList}
 
 -- a first entry with an L1 page: nothing is stored yet
 nothing : (c : tie.Then1) → c .before .before .before .before .pieces-row .last .0 ≡ c .before .before .before .before .before .before .before .before .before .args .words .now

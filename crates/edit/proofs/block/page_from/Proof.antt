@@ -5,7 +5,7 @@ use mathlib.Core.List.{List, headD}
 use Prim.Native.Nat.{ℕ, _<_}
 use native.Mathlib.Omega.{arith}
 use lib.ListN.{drop}
-use Rattle.edit.specs.Kinds.{freeList}
+use Rattle.types.specs.Views.{freeList}
 use Rattle.edit.proofs.Fronts.{page-none, page-past, page-first, page-second}
 use Rattle.edit.proofs.block.page_from.Statement.{statement}
 use Rattle.edit.proofs.block.page_from.Tie as tie

@@ -6,13 +6,12 @@ use Rattle.edit.proofs.BlockRows.{changed-l2}
 use Rattle.entries.proofs.Order.{ahead-of}
 use Rattle.entries.specs.Run.{run}
 use Rattle.entries.proofs.Places.{place}
-use Rattle.range.specs.Kinds.{requestOf}
 use lib.Dec.{eqb}
 use lib.ListN.{getD}
 use Rattle.model.specs.Numbers.{if_then_else_}
 use Rattle.table.specs.Stored.{storeOf}
 use Rattle.model.specs.Stores.{Store, ifChangedL2}
-use Rattle.types.specs.Views.{entryOf}
+use Rattle.types.specs.Views.{entryOf, requestOf}
 use Rattle.edit.proofs.block.put_entry.Statement.{statement}
 use Rattle.edit.proofs.block.put_entry.Tie as tie
 use Rattle.table.specs.Board.{frameOf}

@@ -2,9 +2,8 @@ use mathlib.Core.Path.{_∙_}
 use Prim.Native.Nat.{_-_}
 use native.Mathlib.Omega.{arith}
 use Rattle.entries.proofs.NewPage.{New, new-start, new-ahead, new-next, new-cut, new-end, new-good, new-lent}
-use Rattle.range.specs.Kinds.{requestOf}
 use Rattle.model.specs.Numbers.{joined}
-use Rattle.types.specs.Views.{entryOf}
+use Rattle.types.specs.Views.{entryOf, requestOf}
 use Rattle.entries.proofs.fresh.new_entries.Statement.{statement}
 use Rattle.entries.proofs.fresh.new_entries.Tie as tie
 

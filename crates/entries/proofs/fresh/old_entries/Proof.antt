@@ -2,8 +2,7 @@
 use mathlib.Core.Path.{_≡_, _∙_}
 use Prim.Native.Nat.{_+_, _-_}
 use native.Mathlib.Omega.{arith}
-use Rattle.range.specs.Kinds.{requestOf}
-use Rattle.types.specs.Views.{entryOf}
+use Rattle.types.specs.Views.{entryOf, requestOf}
 use Rattle.entries.proofs.NewPage.{New, new-start, new-ahead, new-next, new-cut, new-end, new-good, new-lent}
 use Rattle.entries.proofs.fresh.old_entries.Statement.{statement}
 use Rattle.entries.proofs.fresh.old_entries.Tie as tie

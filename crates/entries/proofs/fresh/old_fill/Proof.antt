@@ -8,8 +8,7 @@ use borrow.Author.Needs.{needs}
 use Rattle.model.specs.Forms.{l1Word}
 use Rattle.model.specs.Frame.{indexOf}
 use Rattle.model.specs.Stores.{Store}
-use Rattle.types.specs.Views.{entryOf}
-use Rattle.range.specs.Kinds.{requestOf}
+use Rattle.types.specs.Views.{entryOf, requestOf}
 use Rattle.forms.specs.Kinds.{oldWord}
 use Rattle.forms.proofs.EntryLaws.{word-outside}
 use Rattle.table.specs.Board.{WORDS, ENTRY, frameOf}

@@ -10,10 +10,9 @@ use Rattle.entries.proofs.Order.{ahead-of, Way, way-start, way-ahead, w
 use Rattle.entries.proofs.Places.{lent-same, good-same}
 use Rattle.entries.proofs.Runs.{went-whole, went-cut}
 use Rattle.entries.specs.Run.{out, run}
-use Rattle.entries.specs.declared.Budget.{Budget}
-use Rattle.range.specs.Kinds.{requestOf}
+use Rattle.types.specs.declared.Budget.{Budget}
 use Rattle.model.specs.Stores.{Store, newTable}
-use Rattle.types.specs.Views.{entryOf}
+use Rattle.types.specs.Views.{entryOf, requestOf}
 use borrow.Author.Needs.{needs}
 use Rattle.entries.proofs.fresh.stores.Statement.{statement}
 use Rattle.entries.proofs.fresh.stores.Tie as tie

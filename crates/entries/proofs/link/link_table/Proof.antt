@@ -9,12 +9,11 @@ use Rattle.entries.specs.Ahead.{Ahead}
 use Rattle.entries.proofs.Order.{ahead-of, Way, way-start, way-ahead, way-next, way-cut}
 use Rattle.entries.proofs.Runs.{went-whole, went-cut}
 use Rattle.entries.specs.Run.{run}
-use Rattle.entries.specs.declared.Budget.{Budget}
-use Rattle.range.specs.Kinds.{requestOf}
+use Rattle.types.specs.declared.Budget.{Budget}
 use Rattle.model.specs.Entry.{table, encode}
 use Rattle.model.specs.Frame.{Frame, lent}
 use Rattle.model.specs.Stores.{Store, storeL2, newTable, linkTable}
-use Rattle.types.specs.Views.{entryOf}
+use Rattle.types.specs.Views.{entryOf, requestOf}
 use Rattle.entries.proofs.link.link_table.Statement.{statement}
 use Rattle.entries.proofs.link.link_table.Tie as tie
 

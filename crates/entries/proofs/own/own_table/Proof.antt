@@ -1,7 +1,7 @@
 use native.Mathlib.Omega.{arith}
 use borrow.Author.Needs.{needs}
 use Rattle.entries.proofs.OwnPage.{own-none}
-use Rattle.range.specs.Kinds.{requestOf}
+use Rattle.types.specs.Views.{requestOf}
 use Rattle.entries.proofs.own.own_table.Statement.{statement}
 use Rattle.entries.proofs.own.own_table.Tie as tie
 

@@ -6,7 +6,7 @@ use Rattle.model.specs.Frame.{Frame}
 use Rattle.entries.proofs.OwnPage.{Same, same-start, same-ahead, same-next, same-cut, same-end}
 use Rattle.entries.proofs.Places.{frame-same}
 use Rattle.entries.proofs.Runs.{went-whole, went-cut}
-use Rattle.range.specs.Kinds.{requestOf}
+use Rattle.types.specs.Views.{requestOf}
 use Rattle.model.specs.Entry.{table}
 use Rattle.theory.specs.Rooted.{Good}
 use Rattle.entries.proofs.own.same_table.Statement.{statement}

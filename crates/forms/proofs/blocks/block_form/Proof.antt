@@ -7,8 +7,7 @@ use Rattle.table.specs.Board.{frameOf}
 use Rattle.shapes.proofs.FormLaws.{form-flat, form-not, form-inside}
 use Rattle.forms.proofs.BoardShape.{board-shape}
 use Rattle.model.specs.Numbers.{pack}
-use Rattle.range.specs.Kinds.{requestOf}
-use Rattle.types.specs.Views.{entryOf}
+use Rattle.types.specs.Views.{entryOf, requestOf}
 use Rattle.forms.proofs.blocks.block_form.Statement.{statement}
 use Rattle.forms.proofs.blocks.block_form.Tie as tie
 

@@ -6,8 +6,7 @@ use lib.ListN.{length}
 use Rattle.table.specs.Board.{WORDS, PIECES, PIECEBYTES, frameOf}
 use Rattle.forms.proofs.FormLaws.{isOne, form-table}
 use Rattle.forms.proofs.Fields.{every-fail}
-use Rattle.range.specs.Kinds.{requestOf}
-use Rattle.types.specs.Views.{entryOf}
+use Rattle.types.specs.Views.{entryOf, requestOf}
 use borrow.Author.Needs.{needs}
 use Rattle.forms.proofs.blocks.cut_form.Statement.{statement}
 use Rattle.forms.proofs.blocks.cut_form.Tie as tie

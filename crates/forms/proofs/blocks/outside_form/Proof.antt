@@ -5,8 +5,7 @@ use borrow.Author.Needs.{needs}
 use lib.ListN.{length}
 use Rattle.table.specs.Board.{WORDS}
 use Rattle.forms.proofs.FormLaws.{form-flat-out, form-pieces-out}
-use Rattle.range.specs.Kinds.{requestOf}
-use Rattle.types.specs.Views.{entryOf}
+use Rattle.types.specs.Views.{entryOf, requestOf}
 use Rattle.forms.proofs.blocks.outside_form.Statement.{statement}
 use Rattle.forms.proofs.blocks.outside_form.Tie as tie
 

@@ -1,8 +1,7 @@
 use mathlib.Core.Path.{_≡_, ap, _∙_}
 use Prim.Native.Nat.{ℕ, _+_, _*_}
-use Rattle.range.specs.Kinds.{requestOf}
 use Rattle.model.specs.Forms.{allAre}
-use Rattle.types.specs.Views.{entryOf}
+use Rattle.types.specs.Views.{entryOf, requestOf}
 use borrow.Author.Needs.{needs}
 use Rattle.table.specs.Board.{PIECE, frameOf}
 use Rattle.forms.proofs.blocks.piece_is_one.Statement.{statement}

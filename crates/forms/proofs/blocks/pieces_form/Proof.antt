@@ -10,10 +10,9 @@ use Rattle.table.specs.Board.{WORDS, PIECES, PIECE, INFO, frameOf}
 use Rattle.forms.proofs.FormLaws.{firstOf, isOne, form-pieces, form-table}
 use Rattle.forms.proofs.Fields.{horner, every-down, every-fail, pack4-fits}
 use Rattle.forms.proofs.EntryLaws.{after-small}
-use Rattle.range.specs.Kinds.{requestOf}
 use Rattle.model.specs.Forms.{allAre, wantPieces}
 use Rattle.model.specs.Numbers.{pack, every}
-use Rattle.types.specs.Views.{entryOf}
+use Rattle.types.specs.Views.{entryOf, requestOf}
 use Rattle.forms.proofs.blocks.pieces_form.Statement.{statement}
 use Rattle.forms.proofs.blocks.pieces_form.Tie as tie
 

@@ -4,11 +4,10 @@ use lib.ListN.{length}
 use Rattle.table.specs.Board.{WORDS, EACHPIECE}
 use Rattle.forms.proofs.EvenLaws.{even-empty, mixed-first, mixed-past, even-spliced}
 use Rattle.forms.proofs.SpliceLaws.{splice-bits}
-use Rattle.range.specs.Kinds.{requestOf}
 use Rattle.forms.specs.Kinds.{Mixes}
 use Rattle.laws.proofs.Splices.{spliced}
 use Rattle.model.specs.Forms.{wantPieces}
-use Rattle.types.specs.Views.{entryOf}
+use Rattle.types.specs.Views.{entryOf, requestOf}
 use borrow.Author.Needs.{needs}
 use Rattle.forms.proofs.even.even_form.Statement.{statement}
 use Rattle.forms.proofs.even.even_form.Tie as tie

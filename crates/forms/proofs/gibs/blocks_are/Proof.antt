@@ -7,11 +7,10 @@ use borrow.Author.Tests.{not-true, not-false}
 use lib.ListN.{length}
 use Rattle.table.specs.Board.{frameOf}
 use Rattle.forms.proofs.GibLaws.{blockIs, gib-every, every-next, every-stop, every-none}
-use Rattle.range.specs.Kinds.{requestOf}
 use Rattle.model.specs.Entry.{Entry}
 use Rattle.model.specs.Forms.{allAre, gibIsOne}
 use Rattle.model.specs.Numbers.{every}
-use Rattle.types.specs.Views.{entryOf}
+use Rattle.types.specs.Views.{entryOf, requestOf}
 use Rattle.theory.specs.Rooted.{Good}
 use Rattle.forms.proofs.gibs.blocks_are.Statement.{statement}
 use Rattle.forms.proofs.gibs.blocks_are.Tie as tie

@@ -3,7 +3,7 @@ use Prim.Native.Nat.{_/_}
 use lib.ListN.{length}
 use Rattle.table.specs.Board.{WORDS, frameOf}
 use Rattle.forms.proofs.FormLaws.{form-inside}
-use Rattle.range.specs.Kinds.{requestOf}
+use Rattle.types.specs.Views.{requestOf}
 use Rattle.model.specs.Forms.{Form}
 use Rattle.model.specs.Numbers.{if_then_else_}
 use Rattle.model.specs.Stores.{needsPage}

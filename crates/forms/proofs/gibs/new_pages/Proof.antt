@@ -5,9 +5,10 @@ use native.Mathlib.Omega.{arith}
 use borrow.Author.Tests.{eqb-true}
 use borrow.Author.Needs.{needs}
 use Rattle.laws.proofs.Choices.{and-true}
-use Rattle.range.specs.Kinds.{requestOf, Fair}
+use Rattle.range.specs.Kinds.{Fair}
 use Rattle.forms.proofs.CountLaws.{ends, some, low-inside, high-inside, count-none, count-one, count-two, one-at-most}
 use Rattle.forms.proofs.gibs.new_pages.Statement.{statement}
+use Rattle.types.specs.Views.{requestOf}
 use Rattle.forms.proofs.gibs.new_pages.Tie as tie
 
 fair : (s : tie.Start) → Fair (s .args .q)

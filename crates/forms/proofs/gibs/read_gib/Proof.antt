@@ -4,12 +4,13 @@ use native.Mathlib.Omega.{arith}
 use lib.ListN.{length}
 use Rattle.table.specs.Board.{WORDS, PIECE, frameOf}
 use Rattle.forms.proofs.GibLaws.{first-of, mixed-gib}
-use Rattle.range.specs.Kinds.{requestOf, Meets}
+use Rattle.range.specs.Kinds.{Meets}
 use Rattle.model.specs.Entry.{Entry}
 use Rattle.model.specs.Forms.{afterIn, gibFirst}
 use Rattle.theory.specs.Rooted.{Good}
 use borrow.Author.Needs.{needs}
 use Rattle.forms.proofs.gibs.read_gib.Statement.{statement}
+use Rattle.types.specs.Views.{requestOf}
 use Rattle.forms.proofs.gibs.read_gib.Tie as tie
 
 -- the permission of the GiB's first page

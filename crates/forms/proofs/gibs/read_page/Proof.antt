@@ -4,12 +4,11 @@ use native.Mathlib.Omega.{arith}
 use borrow.Author.Tests.{not-true}
 use Rattle.table.specs.Board.{frameOf}
 use Rattle.forms.proofs.CountLaws.{table-none}
-use Rattle.range.specs.Kinds.{requestOf}
 use Rattle.model.specs.Entry.{Entry}
 use Rattle.model.specs.Forms as model
 use Rattle.model.specs.Stores.{needsPage}
 use Rattle.model.specs.Walk as walk
-use Rattle.types.specs.Views.{entryOf}
+use Rattle.types.specs.Views.{entryOf, requestOf}
 use Rattle.theory.specs.Rooted.{Good}
 use borrow.Author.Needs.{needs}
 use Rattle.forms.proofs.gibs.read_page.Statement.{statement}

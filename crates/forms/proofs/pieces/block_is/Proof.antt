@@ -2,8 +2,7 @@ use Prim.Native.Nat.{_*_, _/_}
 use lib.ListN.{length}
 use Rattle.table.specs.Board.{WORDS}
 use Rattle.forms.proofs.EntryLaws.{run-inside}
-use Rattle.range.specs.Kinds.{requestOf}
-use Rattle.types.specs.Views.{entryOf}
+use Rattle.types.specs.Views.{entryOf, requestOf}
 use borrow.Author.Needs.{needs}
 use Rattle.forms.proofs.pieces.block_is.Statement.{statement}
 use Rattle.forms.proofs.pieces.block_is.Tie as tie

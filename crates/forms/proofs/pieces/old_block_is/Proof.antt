@@ -6,10 +6,9 @@ use lib.ListN.{length}
 use Rattle.table.specs.Board.{WORDS, INFO}
 use Rattle.forms.proofs.EntryLaws.{run-outside}
 use Rattle.forms.proofs.EvenLaws.{even-is, even-pieces}
-use Rattle.range.specs.Kinds.{requestOf}
 use Rattle.model.specs.Forms.{permOf}
 use Rattle.model.specs.Walk.{found}
-use Rattle.types.specs.Views.{entryOf}
+use Rattle.types.specs.Views.{entryOf, requestOf}
 use borrow.Author.Needs.{needs}
 use Rattle.forms.proofs.pieces.old_block_is.Statement.{statement}
 use Rattle.forms.proofs.pieces.old_block_is.Tie as tie

@@ -4,9 +4,8 @@ use native.Mathlib.Omega.{arith}
 use lib.ListN.{length}
 use Rattle.table.specs.Board.{WORDS, FIELDS, PIECE, ROW, ENTRY, frameOf}
 use Rattle.forms.proofs.EntryLaws.{first-field, after-small, word-outside}
-use Rattle.range.specs.Kinds.{requestOf}
 use Rattle.model.specs.Forms.{afterIn}
-use Rattle.types.specs.Views.{entryOf}
+use Rattle.types.specs.Views.{entryOf, requestOf}
 use borrow.Author.Needs.{needs}
 use Rattle.forms.proofs.pieces.old_first.Statement.{statement}
 use Rattle.forms.proofs.pieces.old_first.Tie as tie

@@ -8,7 +8,6 @@ use Rattle.table.specs.Board.{WORDS, PIECE, ROW, frameOf}
 use Rattle.forms.proofs.EntryLaws.{run-outside}
 use Rattle.forms.proofs.Fields.{eqb-swap, index-add}
 use Rattle.forms.proofs.FormLaws.{piece-words}
-use Rattle.range.specs.Kinds.{requestOf}
 use Rattle.forms.specs.Kinds.{spreadOf}
 use Rattle.model.specs.Entry.{Entry}
 use Rattle.model.specs.Forms.{allAre, permOf}
@@ -16,7 +15,7 @@ use Rattle.model.specs.Frame.{indexOf}
 use Rattle.model.specs.Layout.{piecePages}
 use Rattle.model.specs.Numbers.{digit, every}
 use Rattle.model.specs.Walk.{found, pieceOf}
-use Rattle.types.specs.Views.{entryOf}
+use Rattle.types.specs.Views.{entryOf, requestOf}
 use Rattle.forms.proofs.pieces.old_piece_is.Statement.{statement}
 use Rattle.forms.proofs.pieces.old_piece_is.Tie as tie
 

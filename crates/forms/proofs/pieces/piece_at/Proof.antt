@@ -5,9 +5,8 @@ use lib.ListN.{length}
 use borrow.Author.Tests.{eq-eqb}
 use Rattle.table.specs.Board.{WORDS, PIECE}
 use Rattle.forms.proofs.EntryLaws.{run-inside}
-use Rattle.range.specs.Kinds.{requestOf}
 use Rattle.model.specs.Forms.{afterIn}
-use Rattle.types.specs.Views.{entryOf}
+use Rattle.types.specs.Views.{entryOf, requestOf}
 use borrow.Author.Needs.{needs}
 use Rattle.forms.proofs.pieces.piece_at.Statement.{statement}
 use Rattle.forms.proofs.pieces.piece_at.Tie as tie

@@ -5,9 +5,8 @@ use lib.ListN.{length}
 use borrow.Author.Needs.{needs}
 use Rattle.table.specs.Board.{WORDS, FIELDS, PIECE, ROW, frameOf}
 use Rattle.forms.proofs.EntryLaws.{first-field, after-small}
-use Rattle.range.specs.Kinds.{requestOf}
 use Rattle.model.specs.Forms.{afterIn}
-use Rattle.types.specs.Views.{entryOf}
+use Rattle.types.specs.Views.{entryOf, requestOf}
 use Rattle.forms.proofs.pieces.piece_first.Statement.{statement}
 use Rattle.forms.proofs.pieces.piece_first.Tie as tie
 

@@ -7,9 +7,8 @@ use borrow.Author.Tests.{not-true, not-false}
 use lib.ListN.{length}
 use Rattle.table.specs.Board.{WORDS, PIECES, PIECE, frameOf}
 use Rattle.forms.proofs.EntryLaws.{pieces-next, pieces-stop, all-none}
-use Rattle.range.specs.Kinds.{requestOf}
 use Rattle.model.specs.Forms.{allAre}
-use Rattle.types.specs.Views.{entryOf}
+use Rattle.types.specs.Views.{entryOf, requestOf}
 use Rattle.forms.proofs.pieces.pieces_are.Statement.{statement}
 use Rattle.forms.proofs.pieces.pieces_are.Tie as tie
 

@@ -9,10 +9,9 @@ use lib.Dec.{eqb}
 use lib.ListN.{length}
 use Rattle.table.specs.Board.{WORDS, FIELDS, PIECE, ROW, frameOf}
 use Rattle.forms.proofs.EntryLaws.{word-is, words-next, words-stop, all-none}
-use Rattle.range.specs.Kinds.{requestOf}
 use Rattle.forms.specs.Kinds.{spreadOf}
 use Rattle.model.specs.Forms.{allAre}
-use Rattle.types.specs.Views.{entryOf}
+use Rattle.types.specs.Views.{entryOf, requestOf}
 use Rattle.forms.proofs.pieces.words_are.Statement.{statement}
 use Rattle.forms.proofs.pieces.words_are.Tie as tie
 

@@ -5,10 +5,9 @@ use native.Mathlib.Omega.{arith}
 use borrow.Author.Needs.{needs}
 use Rattle.table.specs.Board.{WORDS, FIELDS, ENTRY}
 use Rattle.forms.proofs.EntryLaws.{word-inside, word-outside, word-across}
-use Rattle.range.specs.Kinds.{requestOf}
 use Rattle.forms.specs.Kinds.{mixedAt}
 use Rattle.model.specs.Numbers.{pack}
-use Rattle.types.specs.Views.{entryOf}
+use Rattle.types.specs.Views.{entryOf, requestOf}
 use Rattle.forms.proofs.words.after_word.Statement.{statement}
 use Rattle.forms.proofs.words.after_word.Tie as tie
 

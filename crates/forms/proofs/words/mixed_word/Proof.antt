@@ -2,7 +2,7 @@ use mathlib.Core.Path.{ap, _∙_}
 use Prim.Native.Nat.{ℕ, _^_}
 use native.Mathlib.Omega.{arith}
 use Rattle.forms.proofs.SpliceLaws.{mixed-spliced}
-use Rattle.range.specs.Kinds.{requestOf}
+use Rattle.types.specs.Views.{requestOf}
 use Rattle.laws.proofs.Splices.{spliced}
 use borrow.Author.Needs.{needs}
 use Rattle.forms.proofs.words.mixed_word.Statement.{statement}

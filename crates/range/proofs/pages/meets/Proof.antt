@@ -6,7 +6,7 @@ use native.Mathlib.Omega.{arith}
 use lib.Dec.{leb}
 use borrow.Author.Tests.{leb-true, leb-false}
 use Rattle.range.proofs.InRange.{in-true}
-use Rattle.range.specs.Kinds.{requestOf}
+use Rattle.types.specs.Views.{requestOf}
 use Rattle.laws.proofs.Choices.{split}
 use borrow.Author.Needs.{needs}
 use Rattle.range.proofs.pages.meets.Statement.{statement}
