@@ -34,7 +34,7 @@ use Rattle.theory.proofs.Forms.{forms-fit, forms-all, forms-length, same-form, 
 use Rattle.theory.proofs.Frames.{lent-ppn}
 use Rattle.theory.proofs.OneCall.{At, spot, next as at-next, at-start}
 use Rattle.theory.proofs.Plans.{AllAt, FitsAll, Call}
-use Rattle.edit.proofs.Fronts.{drop-tail}
+use Rattle.laws.proofs.Fronts.{drop-tail}
 use Rattle.entries.proofs.Places.{frame-same}
 use Rattle.edit.proofs.Facts.{Facts, stores-same}
 use Rattle.types.specs.declared.Frame as code

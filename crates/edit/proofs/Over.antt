@@ -24,7 +24,7 @@ use Rattle.model.specs.Stores.{Store, blockStores, needsPage, storesFrom, newPa
 use Rattle.model.specs.Walk.{entryAt}
 use Rattle.theory.proofs.Forms.{same-form}
 use Rattle.theory.proofs.Walks.{entry-word}
-use Rattle.edit.proofs.Fronts.{drop-tail}
+use Rattle.laws.proofs.Fronts.{drop-tail}
 use Rattle.entries.proofs.Places.{frame-same}
 use Rattle.edit.proofs.Facts.{Facts, stores-same}
 use Rattle.edit.proofs.Going.{Going, after-same, going-cut, going-next, size}

@@ -2,6 +2,9 @@
 pub mod block;
 
 use crate::block::next_blocks;
+use types::pages::PAGE_BYTES;
+use types::pages::GIB_BYTES;
+use types::pages::GIB_BLOCKS;
 use types::Budget;
 use types::Went;
 use types::Gib;
@@ -10,6 +13,7 @@ use forms::words::page_at;
 use types::Request;
 use types::Free;
 use types::Fence;
+use types::Edit;
 use types::Frame;
 use types::Made;
 use types::PageNumber;
@@ -28,25 +32,23 @@ ghost use Rattle.table.specs.Board.{frameOf};
 
 // The stores of an edit that no refusal fits, in order, up to the limit. free: the free pages, lowest first.
 pub fn stores(
-    f: Frame,
+    edit: Edit,
     words: &mut [Word],
-    q: Request,
-    root: PageNumber,
     free: Free,
     limit: Budget,
 ) -> Went
-    requires { ⌜ Accepted (frameOf f (now words)) (now words) (requestOf q) (root .0) (freeList free) ⌝ }
+    requires { ⌜ Accepted (frameOf (edit .f) (now words)) (now words) (requestOf (edit .q)) (edit .root .0) (freeList free) ⌝ }
     ensures { λ r. ⌜ out (r .all) (r .left) (now (words .exit))
-        ≡ run limit (wholeList (frameOf f (now (words .entry))) (now (words .entry)) (requestOf q) (root .0) (freeList free)) (now (words .entry)) ⌝ }
+        ≡ run limit (wholeList (frameOf (edit .f) (now (words .entry))) (now (words .entry)) (requestOf (edit .q)) (edit .root .0) (freeList free)) (now (words .entry)) ⌝ }
 {
-    let end = ((q.start.0 + q.size - 1) / 0x4000_0000 + 1) * 32;
-    let mut b = q.start.0 / 0x4000_0000 * 32;
+    let end = ((edit.q.start.0 + edit.q.size - 1) / GIB_BYTES + 1) * GIB_BLOCKS;
+    let mut b = edit.q.start.0 / GIB_BYTES * GIB_BLOCKS;
     let mut gib = Gib { one: false, p: 0 };
     let mut next: u64 = 0;
     let mut left = limit;
     while b < end {
-        gib = gib_at(f, words, q, root, b, gib);
-        let step = next_blocks(f, words, q, root, gib, b, free, next, left);
+        gib = gib_at(edit, words, b, gib);
+        let step = next_blocks(edit, words, gib, b, free, next, left);
         if !step.all {
             return Went {
                 all: false,
@@ -78,22 +80,20 @@ pub fn in_root(f: Frame, words: &[Word], root: PageNumber, at: usize) -> bool
 
 // The fence after count stores, the last to word at, that were all or were cut.
 pub fn fence_of(
-    f: Frame,
+    edit: Edit,
     words: &[Word],
-    q: Request,
-    root: PageNumber,
     sdid: Sdid,
     count: u64,
     all: bool,
     at: usize,
 ) -> Fence
-    requires { ⌜ (lent (frameOf f (now words)) (root .0) ≡ true) × (boundsOk (frameOf f (now words)) ≡ true) ⌝ }
-    ensures { λ r. ⌜ fenceOf r ≡ fenceAfter (frameOf f (now (words .entry))) (requestOf q) (root .0) (sdid .0) count all at ⌝ }
+    requires { ⌜ (lent (frameOf (edit .f) (now words)) (edit .root .0) ≡ true) × (boundsOk (frameOf (edit .f) (now words)) ≡ true) ⌝ }
+    ensures { λ r. ⌜ fenceOf r ≡ fenceAfter (frameOf (edit .f) (now (words .entry))) (requestOf (edit .q)) (edit .root .0) (sdid .0) count all at ⌝ }
 {
     if count == 0 {
         return Fence::Nothing;
     }
-    if q.size != 4096 {
+    if edit.q.size != PAGE_BYTES {
         return Fence::Domain(sdid);
     }
     if count != 1 {
@@ -102,44 +102,42 @@ pub fn fence_of(
     if !all {
         return Fence::Domain(sdid);
     }
-    if in_root(f, words, root, at) {
+    if in_root(edit.f, words, edit.root, at) {
         return Fence::Domain(sdid);
     }
-    let start = q.start;
+    let start = edit.q.start;
     Fence::One(start, sdid)
 }
 
 // An edit that no refusal fits.
 pub fn make(
-    f: Frame,
+    edit: Edit,
     words: &mut [Word],
-    q: Request,
-    root: PageNumber,
     sdid: Sdid,
     free: Free,
     limit: u64,
 ) -> Made
-    requires { ⌜ Accepted (frameOf f (now words)) (now words) (requestOf q) (root .0) (freeList free) ⌝ }
-    ensures { λ r. ⌜ IsMade (frameOf f (now (words .entry))) (requestOf q) (root .0) (sdid .0)
-        (wholeList (frameOf f (now (words .entry))) (now (words .entry)) (requestOf q) (root .0) (freeList free)) limit (now (words .entry)) (now (words .exit)) r ⌝ }
+    requires { ⌜ Accepted (frameOf (edit .f) (now words)) (now words) (requestOf (edit .q)) (edit .root .0) (freeList free) ⌝ }
+    ensures { λ r. ⌜ IsMade (frameOf (edit .f) (now (words .entry))) (requestOf (edit .q)) (edit .root .0) (sdid .0)
+        (wholeList (frameOf (edit .f) (now (words .entry))) (now (words .entry)) (requestOf (edit .q)) (edit .root .0) (freeList free)) limit (now (words .entry)) (now (words .exit)) r ⌝ }
 {
     let start = Budget {
         more: limit,
         last: 0,
     };
-    let went = stores(f, words, q, root, free, start);
+    let went = stores(edit, words, free, start);
     let rest = went.left;
     let all = went.all;
     if all {
         let count = limit - rest.more;
-        let fence = fence_of(f, words, q, root, sdid, count, true, rest.last);
+        let fence = fence_of(edit, words, sdid, count, true, rest.last);
         return Made {
             count: count,
             all: true,
             fence: fence,
         };
     }
-    let fence = fence_of(f, words, q, root, sdid, limit, false, 0);
+    let fence = fence_of(edit, words, sdid, limit, false, 0);
     Made {
         count: limit,
         all: false,

@@ -11,21 +11,23 @@ use types::Request;
 use range::pages::first_entry;
 use range::pages::past_entry;
 use types::Entry;
+use types::Edit;
 use types::Frame;
 use types::PageNumber;
 use table::board::PAGE_WORDS;
 use table::board::PIECE_WORDS;
 use table::board::Word;
 use table::board::narrow;
+ghost use Rattle.model.specs.Layout.{blockPages};
 ghost use mathlib.Core.Path.{_≡_};
 ghost use mathlib.Core.Bool.{true};
 ghost use mathlib.Core.List.{List, [], _∷_};
 ghost use Prim.Native.Nat.{ℕ, _+_, _-_, _*_, _≤_, _<_};
-ghost use Rattle.table.specs.Board.{WORDS, FIELDS, frameOf};
+ghost use Rattle.table.specs.Board.{BLOCKS, WORDS, FIELDS, frameOf};
 ghost use Rattle.entries.specs.Ahead.{Ahead};
 ghost use Rattle.entries.specs.Pages.{Plain, newRun};
 ghost use Rattle.entries.specs.Run.{out, run};
-ghost use Rattle.range.specs.Kinds.{Fair, Lies, Past};
+ghost use Rattle.range.specs.Kinds.{Past};
 ghost use Rattle.model.specs.Forms.{l1Word};
 ghost use Rattle.forms.specs.Kinds.{oldWord};
 ghost use Rattle.model.specs.Frame as frame;
@@ -33,12 +35,12 @@ ghost use Rattle.model.specs.Frame.{lent};
 ghost use Rattle.model.specs.Stores.{Store, storeAt, newTable};
 ghost use Rattle.types.specs.Views.{entryOf, requestOf};
 ghost use Rattle.theory.specs.Rooted.{Good};
+ghost use Rattle.types.specs.Range.{Fair, Lies};
 
 // L1 entry i of block b, in the new page.
 pub fn new_entry(
-    f: Frame,
+    edit: Edit,
     words: &mut [Word],
-    q: Request,
     e: Entry,
     b: u64,
     new: PageNumber,
@@ -46,20 +48,19 @@ pub fn new_entry(
     left: Budget,
 ) -> Went
     ghost { List Store }
-    requires { λ ss. ⌜ ss ≡ (storeAt (frameOf f (now words)) (new .0) i (l1Word (frameOf f (now words)) (now words) (requestOf q) (entryOf e) b i) ∷ []) ⌝ }
-    requires { λ ss. ⌜ (b < 512) × (i < WORDS) × Fair q × Good (frameOf f (now words)) (now words) (entryOf e) × (lent (frameOf f (now words)) (new .0) ≡ true) × Ahead (now words) ss ⌝ }
+    requires { λ ss. ⌜ ss ≡ (storeAt (frameOf (edit .f) (now words)) (new .0) i (l1Word (frameOf (edit .f) (now words)) (now words) (requestOf (edit .q)) (entryOf e) b i) ∷ []) ⌝ }
+    requires { λ ss. ⌜ (b < BLOCKS) × (i < WORDS) × Fair (edit .q) × Good (frameOf (edit .f) (now words)) (now words) (entryOf e) × (lent (frameOf (edit .f) (now words)) (new .0) ≡ true) × Ahead (now words) ss ⌝ }
     ensures { λ ss r. ⌜ out (r .all) (r .left) (now (words .exit)) ≡ run left ss (now (words .entry)) ⌝ }
 {
-    let at = page_at(f, words, new) + i as usize;
-    let word = narrow(after_word(f, words, q, e, b, i));
+    let at = page_at(edit.f, words, new) + i as usize;
+    let word = narrow(after_word(edit, words, e, b, i));
     put(words, left, at, word)
 }
 
 // The entries from .. to of a new page, in order.
 pub fn new_entries(
-    f: Frame,
+    edit: Edit,
     words: &mut [Word],
-    q: Request,
     e: Entry,
     b: u64,
     new: PageNumber,
@@ -68,13 +69,13 @@ pub fn new_entries(
     left: Budget,
 ) -> Went
     ghost { List Store }
-    requires { λ ss. ⌜ ss ≡ newRun (frameOf f (now words)) (now words) (requestOf q) (entryOf e) b (new .0) (to - from) from ⌝ }
-    requires { λ ss. ⌜ (b < 512) × (to ≤ WORDS) × (from ≤ to) × Fair q × Good (frameOf f (now words)) (now words) (entryOf e) × (lent (frameOf f (now words)) (new .0) ≡ true) × Plain (entryOf e) × Ahead (now words) ss ⌝ }
+    requires { λ ss. ⌜ ss ≡ newRun (frameOf (edit .f) (now words)) (now words) (requestOf (edit .q)) (entryOf e) b (new .0) (to - from) from ⌝ }
+    requires { λ ss. ⌜ (b < BLOCKS) × (to ≤ WORDS) × (from ≤ to) × Fair (edit .q) × Good (frameOf (edit .f) (now words)) (now words) (entryOf e) × (lent (frameOf (edit .f) (now words)) (new .0) ≡ true) × Plain (entryOf e) × Ahead (now words) ss ⌝ }
     ensures { λ ss r. ⌜ out (r .all) (r .left) (now (words .exit)) ≡ run left ss (now (words .entry)) ⌝ }
 {
     let mut more = left;
     for i in from..to {
-        let went = new_entry(f, words, q, e, b, new, i, more);
+        let went = new_entry(edit, words, e, b, new, i, more);
         if !went.all {
             return went;
         }
@@ -103,9 +104,8 @@ pub fn same_until(e: Entry, i: u64, to: u64) -> u64
 
 // The entries from .. to, outside the range and all one word: where the limit allows for them, they are filled without asking at each.
 pub fn old_fill(
-    f: Frame,
+    edit: Edit,
     words: &mut [Word],
-    q: Request,
     e: Entry,
     b: u64,
     new: PageNumber,
@@ -114,17 +114,17 @@ pub fn old_fill(
     left: Budget,
 ) -> Went
     ghost { List Store }
-    requires { λ ss. ⌜ ss ≡ newRun (frameOf f (now words)) (now words) (requestOf q) (entryOf e) b (new .0) (to - from) from ⌝ }
-    requires { λ ss. ⌜ (b < 512) × (to ≤ WORDS) × (from < to) × Fair q × Good (frameOf f (now words)) (now words) (entryOf e) × (lent (frameOf f (now words)) (new .0) ≡ true) × Plain (entryOf e)
-        × Lies (requestOf q) (b * 8192 + from * FIELDS) ((to - from) * FIELDS) Place.Outside × ((k : ℕ) → from ≤ k → k < to → oldWord (frameOf f (now words)) (now words) (entryOf e) k ≡ oldWord (frameOf f (now words)) (now words) (entryOf e) from) × Ahead (now words) ss ⌝ }
+    requires { λ ss. ⌜ ss ≡ newRun (frameOf (edit .f) (now words)) (now words) (requestOf (edit .q)) (entryOf e) b (new .0) (to - from) from ⌝ }
+    requires { λ ss. ⌜ (b < BLOCKS) × (to ≤ WORDS) × (from < to) × Fair (edit .q) × Good (frameOf (edit .f) (now words)) (now words) (entryOf e) × (lent (frameOf (edit .f) (now words)) (new .0) ≡ true) × Plain (entryOf e)
+        × Lies (requestOf (edit .q)) (b * blockPages + from * FIELDS) ((to - from) * FIELDS) Place.Outside × ((k : ℕ) → from ≤ k → k < to → oldWord (frameOf (edit .f) (now words)) (now words) (entryOf e) k ≡ oldWord (frameOf (edit .f) (now words)) (now words) (entryOf e) from) × Ahead (now words) ss ⌝ }
     ensures { λ ss r. ⌜ out (r .all) (r .left) (now (words .exit)) ≡ run left ss (now (words .entry)) ⌝ }
 {
     let n = to - from;
     if left.more < n {
-        return new_entries(f, words, q, e, b, new, from, to, left);
+        return new_entries(edit, words, e, b, new, from, to, left);
     }
-    let word = narrow(old_word(f, words, e, from));
-    let at = page_at(f, words, new) + from as usize;
+    let word = narrow(old_word(edit.f, words, e, from));
+    let at = page_at(edit.f, words, new) + from as usize;
     let rest = fill(words, at, n as usize, word, left);
     Went {
         left: rest,
@@ -134,9 +134,8 @@ pub fn old_fill(
 
 // The entries from .. to, outside the range: those that are one word at a time.
 pub fn old_entries(
-    f: Frame,
+    edit: Edit,
     words: &mut [Word],
-    q: Request,
     e: Entry,
     b: u64,
     new: PageNumber,
@@ -145,16 +144,16 @@ pub fn old_entries(
     left: Budget,
 ) -> Went
     ghost { List Store }
-    requires { λ ss. ⌜ ss ≡ newRun (frameOf f (now words)) (now words) (requestOf q) (entryOf e) b (new .0) (to - from) from ⌝ }
-    requires { λ ss. ⌜ (b < 512) × (to ≤ WORDS) × (from ≤ to) × Fair q × Good (frameOf f (now words)) (now words) (entryOf e) × (lent (frameOf f (now words)) (new .0) ≡ true) × Plain (entryOf e)
-        × Lies (requestOf q) (b * 8192 + from * FIELDS) ((to - from) * FIELDS) Place.Outside × Ahead (now words) ss ⌝ }
+    requires { λ ss. ⌜ ss ≡ newRun (frameOf (edit .f) (now words)) (now words) (requestOf (edit .q)) (entryOf e) b (new .0) (to - from) from ⌝ }
+    requires { λ ss. ⌜ (b < BLOCKS) × (to ≤ WORDS) × (from ≤ to) × Fair (edit .q) × Good (frameOf (edit .f) (now words)) (now words) (entryOf e) × (lent (frameOf (edit .f) (now words)) (new .0) ≡ true) × Plain (entryOf e)
+        × Lies (requestOf (edit .q)) (b * blockPages + from * FIELDS) ((to - from) * FIELDS) Place.Outside × Ahead (now words) ss ⌝ }
     ensures { λ ss r. ⌜ out (r .all) (r .left) (now (words .exit)) ≡ run left ss (now (words .entry)) ⌝ }
 {
     let mut more = left;
     let mut i = from;
     while i < to {
         let end = same_until(e, i, to);
-        let went = old_fill(f, words, q, e, b, new, i, end, more);
+        let went = old_fill(edit, words, e, b, new, i, end, more);
         if !went.all {
             return went;
         }
@@ -170,7 +169,7 @@ pub fn old_entries(
 
 // Where the entries that the range can meet end, which is not before they begin.
 pub fn near_end(q: Request, b: u64, from: u64) -> u64
-    requires { ⌜ (b < 512) × (from ≤ WORDS) × Fair q ⌝ }
+    requires { ⌜ (b < BLOCKS) × (from ≤ WORDS) × Fair q ⌝ }
     ensures { λ r. ⌜ (from ≤ r) × (r ≤ WORDS) × Past (requestOf q) b r ⌝ }
 {
     let past = past_entry(q, b);
@@ -182,30 +181,29 @@ pub fn near_end(q: Request, b: u64, from: u64) -> u64
 
 // All entries of a new page, in order: those below the range, those that it can meet, and those above.
 pub fn stores(
-    f: Frame,
+    edit: Edit,
     words: &mut [Word],
-    q: Request,
     e: Entry,
     b: u64,
     new: PageNumber,
     left: Budget,
 ) -> Went
     ghost { List Store }
-    requires { λ ss. ⌜ ss ≡ newTable (frameOf f (now words)) (now words) (requestOf q) (entryOf e) b (new .0) ⌝ }
-    requires { λ ss. ⌜ (b < 512) × Fair q × Good (frameOf f (now words)) (now words) (entryOf e) × (lent (frameOf f (now words)) (new .0) ≡ true) × Plain (entryOf e) × Ahead (now words) ss ⌝ }
+    requires { λ ss. ⌜ ss ≡ newTable (frameOf (edit .f) (now words)) (now words) (requestOf (edit .q)) (entryOf e) b (new .0) ⌝ }
+    requires { λ ss. ⌜ (b < BLOCKS) × Fair (edit .q) × Good (frameOf (edit .f) (now words)) (now words) (entryOf e) × (lent (frameOf (edit .f) (now words)) (new .0) ≡ true) × Plain (entryOf e) × Ahead (now words) ss ⌝ }
     ensures { λ ss r. ⌜ out (r .all) (r .left) (now (words .exit)) ≡ run left ss (now (words .entry)) ⌝ }
 {
-    let from = first_entry(q, b);
-    let to = near_end(q, b, from);
-    let below = old_entries(f, words, q, e, b, new, 0, from, left);
+    let from = first_entry(edit.q, b);
+    let to = near_end(edit.q, b, from);
+    let below = old_entries(edit, words, e, b, new, 0, from, left);
     if !below.all {
         return below;
     }
     let more = below.left;
-    let near = new_entries(f, words, q, e, b, new, from, to, more);
+    let near = new_entries(edit, words, e, b, new, from, to, more);
     if !near.all {
         return near;
     }
     let rest = near.left;
-    old_entries(f, words, q, e, b, new, to, PAGE_WORDS as u64, rest)
+    old_entries(edit, words, e, b, new, to, PAGE_WORDS as u64, rest)
 }

@@ -6,6 +6,7 @@ use crate::put::put;
 use forms::words::page_at;
 use types::Request;
 use types::Entry;
+use types::Edit;
 use types::Frame;
 use types::PageNumber;
 use table::board::TABLE_ENTRY;
@@ -15,11 +16,11 @@ ghost use mathlib.Core.Path.{_≡_};
 ghost use mathlib.Core.Bool.{true};
 ghost use mathlib.Core.List.{List, [], _∷_};
 ghost use Prim.Native.Nat.{_<_, _^_};
-ghost use Rattle.table.specs.Board.{board, frameOf};
+ghost use Rattle.table.specs.Board.{BLOCKS, board, frameOf};
 ghost use Rattle.entries.specs.Ahead.{Ahead};
 ghost use Rattle.entries.specs.Pages.{Plain};
 ghost use Rattle.entries.specs.Run.{out, run};
-ghost use Rattle.range.specs.Kinds.{Fair};
+ghost use Rattle.types.specs.Range.{Fair};
 ghost use Rattle.model.specs.Entry.{table, encode};
 ghost use Rattle.model.specs.Frame.{lent};
 ghost use Rattle.model.specs.Stores.{Store, storeL2, linkTable};
@@ -37,7 +38,7 @@ pub fn stores(
 ) -> Went
     ghost { List Store }
     requires { λ ss. ⌜ ss ≡ (storeL2 (frameOf f (now words)) (root .0) b (encode board (table (new .0))) ∷ []) ⌝ }
-    requires { λ ss. ⌜ (b < 512) × (lent (frameOf f (now words)) (root .0) ≡ true) × (new .0 < 2 ^ board .infoBits) × Ahead (now words) ss ⌝ }
+    requires { λ ss. ⌜ (b < BLOCKS) × (lent (frameOf f (now words)) (root .0) ≡ true) × (new .0 < 2 ^ board .infoBits) × Ahead (now words) ss ⌝ }
     ensures { λ ss r. ⌜ out (r .all) (r .left) (now (words .exit)) ≡ run left ss (now (words .entry)) ⌝ }
 {
     let at = page_at(f, words, root) + b as usize;
@@ -46,22 +47,20 @@ pub fn stores(
 
 // A new page, and then the L2 entry that names it.
 pub fn link_table(
-    f: Frame,
+    edit: Edit,
     words: &mut [Word],
-    q: Request,
-    root: PageNumber,
     e: Entry,
     b: u64,
     new: PageNumber,
     left: Budget,
 ) -> Went
     ghost { List Store }
-    requires { λ ss. ⌜ ss ≡ linkTable (frameOf f (now words)) (now words) (requestOf q) (root .0) (entryOf e) b (new .0) ⌝ }
-    requires { λ ss. ⌜ (b < 512) × Fair q × Good (frameOf f (now words)) (now words) (entryOf e) × (lent (frameOf f (now words)) (new .0) ≡ true) × Plain (entryOf e)
-        × (lent (frameOf f (now words)) (root .0) ≡ true) × (new .0 < 2 ^ board .infoBits) × Ahead (now words) ss ⌝ }
+    requires { λ ss. ⌜ ss ≡ linkTable (frameOf (edit .f) (now words)) (now words) (requestOf (edit .q)) (edit .root .0) (entryOf e) b (new .0) ⌝ }
+    requires { λ ss. ⌜ (b < BLOCKS) × Fair (edit .q) × Good (frameOf (edit .f) (now words)) (now words) (entryOf e) × (lent (frameOf (edit .f) (now words)) (new .0) ≡ true) × Plain (entryOf e)
+        × (lent (frameOf (edit .f) (now words)) (edit .root .0) ≡ true) × (new .0 < 2 ^ board .infoBits) × Ahead (now words) ss ⌝ }
     ensures { λ ss r. ⌜ out (r .all) (r .left) (now (words .exit)) ≡ run left ss (now (words .entry)) ⌝ }
 {
-    let first = fresh::stores(f, words, q, e, b, new, left);
+    let first = fresh::stores(edit, words, e, b, new, left);
     if !first.all {
         return first;
     }

@@ -1,4 +1,5 @@
 // The stores of a block that has an L1 page of its own, and keeps it.
+use types::pages::BLOCK_PAGES;
 use types::Budget;
 use types::Went;
 use crate::put::put_changed;
@@ -7,9 +8,10 @@ use forms::words::page_at;
 use types::Place;
 use types::Request;
 use range::pages::first_entry;
-use range::pages::lies;
+use types::pages::lies;
 use range::pages::past_entry;
 use types::Entry;
+use types::Edit;
 use types::Frame;
 use types::PageNumber;
 use table::board::Word;
@@ -17,10 +19,10 @@ use table::board::narrow;
 ghost use mathlib.Core.Path.{_≡_};
 ghost use mathlib.Core.List.{List};
 ghost use Prim.Native.Nat.{_<_};
-ghost use Rattle.table.specs.Board.{WORDS, frameOf};
+ghost use Rattle.table.specs.Board.{BLOCKS, WORDS, frameOf};
 ghost use Rattle.entries.specs.Ahead.{Ahead};
 ghost use Rattle.entries.specs.Run.{out, run};
-ghost use Rattle.range.specs.Kinds.{Fair};
+ghost use Rattle.types.specs.Range.{Fair};
 ghost use Rattle.model.specs.Forms.{l1Word};
 ghost use Rattle.model.specs.Stores.{Store, ifChanged, sameTable};
 ghost use Rattle.theory.specs.Rooted.{Good};
@@ -29,43 +31,41 @@ ghost use Rattle.model.specs.Entry as entry;
 
 // L1 entry i of block b, in the block's own page t.
 pub fn same_entry(
-    f: Frame,
+    edit: Edit,
     words: &mut [Word],
-    q: Request,
     t: PageNumber,
     b: u64,
     i: u64,
     left: Budget,
 ) -> Went
     ghost { List Store }
-    requires { λ ss. ⌜ ss ≡ ifChanged (frameOf f (now words)) (now words) (t .0) i (l1Word (frameOf f (now words)) (now words) (requestOf q) (entry.table (t .0)) b i) ⌝ }
-    requires { λ ss. ⌜ (b < 512) × (i < WORDS) × Fair q × Good (frameOf f (now words)) (now words) (entry.table (t .0)) × Ahead (now words) ss ⌝ }
+    requires { λ ss. ⌜ ss ≡ ifChanged (frameOf (edit .f) (now words)) (now words) (t .0) i (l1Word (frameOf (edit .f) (now words)) (now words) (requestOf (edit .q)) (entry.table (t .0)) b i) ⌝ }
+    requires { λ ss. ⌜ (b < BLOCKS) × (i < WORDS) × Fair (edit .q) × Good (frameOf (edit .f) (now words)) (now words) (entry.table (t .0)) × Ahead (now words) ss ⌝ }
     ensures { λ ss r. ⌜ out (r .all) (r .left) (now (words .exit)) ≡ run left ss (now (words .entry)) ⌝ }
 {
-    let at = page_at(f, words, t) + i as usize;
-    let word = narrow(after_word(f, words, q, Entry::Table(t), b, i));
+    let at = page_at(edit.f, words, t) + i as usize;
+    let word = narrow(after_word(edit, words, Entry::Table(t), b, i));
     put_changed(words, left, at, word)
 }
 
 // Those L1 entries of block b that change, in order, in the block's own page t. Entries that lie outside the range stay: they are not read.
 pub fn same_table(
-    f: Frame,
+    edit: Edit,
     words: &mut [Word],
-    q: Request,
     t: PageNumber,
     b: u64,
     left: Budget,
 ) -> Went
     ghost { List Store }
-    requires { λ ss. ⌜ ss ≡ sameTable (frameOf f (now words)) (now words) (requestOf q) (entry.table (t .0)) b (t .0) ⌝ }
-    requires { λ ss. ⌜ (b < 512) × Fair q × Good (frameOf f (now words)) (now words) (entry.table (t .0)) × Ahead (now words) ss ⌝ }
+    requires { λ ss. ⌜ ss ≡ sameTable (frameOf (edit .f) (now words)) (now words) (requestOf (edit .q)) (entry.table (t .0)) b (t .0) ⌝ }
+    requires { λ ss. ⌜ (b < BLOCKS) × Fair (edit .q) × Good (frameOf (edit .f) (now words)) (now words) (entry.table (t .0)) × Ahead (now words) ss ⌝ }
     ensures { λ ss r. ⌜ out (r .all) (r .left) (now (words .exit)) ≡ run left ss (now (words .entry)) ⌝ }
 {
-    let from = first_entry(q, b);
-    let to = past_entry(q, b);
+    let from = first_entry(edit.q, b);
+    let to = past_entry(edit.q, b);
     let mut more = left;
     for i in from..to {
-        let went = same_entry(f, words, q, t, b, i, more);
+        let went = same_entry(edit, words, t, b, i, more);
         if !went.all {
             return went;
         }
@@ -80,24 +80,23 @@ pub fn same_table(
 
 // The same; outside the range no entry changes.
 pub fn own_table(
-    f: Frame,
+    edit: Edit,
     words: &mut [Word],
-    q: Request,
     t: PageNumber,
     b: u64,
     left: Budget,
 ) -> Went
     ghost { List Store }
-    requires { λ ss. ⌜ ss ≡ sameTable (frameOf f (now words)) (now words) (requestOf q) (entry.table (t .0)) b (t .0) ⌝ }
-    requires { λ ss. ⌜ (b < 512) × Fair q × Good (frameOf f (now words)) (now words) (entry.table (t .0)) × Ahead (now words) ss ⌝ }
+    requires { λ ss. ⌜ ss ≡ sameTable (frameOf (edit .f) (now words)) (now words) (requestOf (edit .q)) (entry.table (t .0)) b (t .0) ⌝ }
+    requires { λ ss. ⌜ (b < BLOCKS) × Fair (edit .q) × Good (frameOf (edit .f) (now words)) (now words) (entry.table (t .0)) × Ahead (now words) ss ⌝ }
     ensures { λ ss r. ⌜ out (r .all) (r .left) (now (words .exit)) ≡ run left ss (now (words .entry)) ⌝ }
 {
-    match lies(q, b * 8192, 8192) {
+    match lies(edit.q, b * BLOCK_PAGES, BLOCK_PAGES) {
         Place::Outside => Went {
             all: true,
             left: left,
         },
-        Place::Inside => same_table(f, words, q, t, b, left),
-        Place::Across => same_table(f, words, q, t, b, left),
+        Place::Inside => same_table(edit, words, t, b, left),
+        Place::Across => same_table(edit, words, t, b, left),
     }
 }

@@ -10,7 +10,7 @@ use lib.Pow.{pow-mono}
 use lib.ListN.{length}
 use borrow.Author.Tests.{eqb-true, ltb-true, ltb-false, leb-true, leb-false}
 use Rattle.types.specs.declared.Frame as code
-use Rattle.range.proofs.InRange.{in-true, below-false, above-false}
+use Rattle.laws.proofs.InRange.{in-true, below-false, above-false}
 use Rattle.range.proofs.Lawful.{board-lawful}
 use Rattle.table.specs.Board.{board, WORDS, FIELDS, PIECES, PIECE, PIECEBYTES, EACHPIECE, frameOf}
 use Rattle.range.proofs.Lawful.{board-lawful}

@@ -7,7 +7,7 @@ use native.Mathlib.Nat.{zero-add}
 use native.Mathlib.Omega.{arith}
 use lib.Dec.{eqb, leb, ltb}
 use borrow.Author.Tests.{eqb-true, eqb-false, eq-eqb, leb-true, leb-false, ltb-true, ltb-false}
-use Rattle.range.specs.Kinds.{Cut}
+use Rattle.types.specs.Range.{Cut}
 use Rattle.table.specs.Board.{board, PIECES, PIECE, INFO, EACHPIECE}
 use Rattle.forms.specs.Kinds.{Even, Mixes}
 use Rattle.laws.proofs.Choices.{split, and-true}
@@ -20,7 +20,7 @@ use Rattle.model.specs.Frame.{Frame}
 use Rattle.model.specs.Numbers.{every, digit, pack}
 use Rattle.model.specs.Walk.{found, pieceOf}
 use Rattle.theory.specs.Rooted.{Good}
-use Rattle.range.proofs.InRange.{in-true, below-false, above-false}
+use Rattle.laws.proofs.InRange.{in-true, below-false, above-false}
 use Rattle.forms.proofs.Fields.{every-fail, pack4-const}
 use Rattle.forms.proofs.FormLaws.{firstOf, isOne, form-table, known-form, info-pack}
 use Rattle.forms.proofs.SpliceLaws.{flat-digit}

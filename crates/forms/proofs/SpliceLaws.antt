@@ -3,14 +3,14 @@ use mathlib.Core.Path.{_≡_, sym, ap, _∙_}
 use mathlib.Core.Bool.{Bool, true, false}
 use Prim.Native.Nat.{ℕ, _+_, _*_, _-_, _/_, _%_, _^_, _≤_, _<_}
 use native.Mathlib.Omega.{arith}
-use Rattle.range.specs.Kinds.{Cut}
+use Rattle.types.specs.Range.{Cut}
 use Rattle.table.specs.Board.{FIELDS, PIECES, ENTRY, INFO, EACHPIECE}
 use Rattle.forms.specs.Kinds.{spreadOf, mixedAt}
 use Rattle.laws.proofs.Digits.{digit-pack}
 use Rattle.laws.proofs.Splices.{spliced, band-pack}
 use Rattle.model.specs.Forms.{Request, inRange}
 use Rattle.model.specs.Numbers.{if_then_else_, digit, pack}
-use Rattle.range.proofs.InRange.{in-true, below-false, above-false}
+use Rattle.laws.proofs.InRange.{in-true, below-false, above-false}
 use Rattle.forms.proofs.Fields.{pow-times, pack-const, pack4-const, outside}
 
 -- a splice at a digit of c bits

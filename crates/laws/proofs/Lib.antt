@@ -13,6 +13,8 @@
 --   Digits     `digit` and `pack`: what is packed is read back
 --   Splices    a number spliced from the digits of two
 --   Peeks      a word of a page, read by way of the page's parts: the same, and quick
+--   InRange    a page in the range, and one outside, as numbers
+--   Fronts     the list of free pages: what stands at a place of it
 --   PageRuns   the finished form by runs of pages and not page by page: the same, and quick
 pub mod Choices
 pub mod Every
@@ -28,3 +30,5 @@ pub mod Frames
 pub mod Shifts
 pub mod Decoded
 pub mod Reserved
+pub mod InRange
+pub mod Fronts

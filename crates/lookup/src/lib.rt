@@ -15,7 +15,8 @@ use table::board::Word;
 use table::lent;
 use table::page;
 use table::register;
-use table::store::read_word;
+use table::root;
+use types::pages;
 use types::rights;
 use table::word;
 ghost use mathlib.Core.Path.{_≡_};
@@ -25,19 +26,18 @@ ghost use Rattle.model.specs.Frame.{boundsOk};
 ghost use Rattle.model.specs.Walk as walk;
 ghost use Rattle.model.specs.Access as access;
 ghost use Rattle.model.specs.Lookup as lookup;
-ghost use Rattle.table.specs.Board.{frameOf};
+ghost use Rattle.table.specs.Board.{BLOCKS, frameOf};
 ghost use Rattle.types.specs.Views.{entryOf, foundOf, permissionNumber, needOf, kindOf, causeNumber, privilegeOf, answerOf};
 ghost use Rattle.lookup.specs.Granted.{grantedOf};
 ghost use Rattle.table.specs.Bounds.{Small};
 
 // The first stage: L2 entry b of a root, decoded once. It says nothing where the root page is not lent.
-pub fn entry_at(f: Frame, words: &[Word], root: PageNumber, b: u64) -> Entry
-    requires { ⌜ b < 512 ⌝ }
+fn entry_at(f: Frame, words: &[Word], root: PageNumber, b: u64) -> Entry
+    requires { ⌜ b < BLOCKS ⌝ }
     ensures { λ r. ⌜ (entryOf r ≡ walk.entryAt (frameOf f (now (words .entry))) (now (words .entry)) (root .0) b) × Small (entryOf r) ⌝ }
 {
     if lent::is_lent(f, words.len(), root) {
-        let at = lent::page_start(f, words.len(), root) + b as usize;
-        return word::decode(read_word(words, at));
+        return root::entry_at(f, words, root, b);
     }
     Entry::Invalid
 }
@@ -47,14 +47,14 @@ fn in_table(f: Frame, words: &[Word], table: PageNumber, number: PageNumber) -> 
     ensures { λ r. ⌜ foundOf r ≡ walk.found (frameOf f (now (words .entry))) (now (words .entry)) (entryOf (Entry.Table table)) (number .0) ⌝ }
 {
     if lent::is_lent(f, words.len(), table) {
-        let at = lent::page_start(f, words.len(), table) + page::pn1(number) as usize;
-        return word::field_found(read_word(words, at), page::pn0(number));
+        let at = lent::page_at(f, words, table) + page::pn1(number) as usize;
+        return word::field_found(words[at], page::pn0(number));
     }
     Found::Fault
 }
 
 // The second stage: what an L2 entry finds for a page of its block.
-pub fn found(f: Frame, words: &[Word], e: Entry, number: PageNumber) -> Found
+fn found(f: Frame, words: &[Word], e: Entry, number: PageNumber) -> Found
     requires { ⌜ Small (entryOf e) ⌝ }
     ensures { λ r. ⌜ foundOf r ≡ walk.found (frameOf f (now (words .entry))) (now (words .entry)) (entryOf e) (number .0) ⌝ }
 {
@@ -69,7 +69,7 @@ pub fn found(f: Frame, words: &[Word], e: Entry, number: PageNumber) -> Found
 }
 
 // "An address of 2^PAW or more faults."
-pub fn walk(f: Frame, words: &[Word], root: PageNumber, number: PageNumber) -> Found
+fn walk(f: Frame, words: &[Word], root: PageNumber, number: PageNumber) -> Found
     requires { ⌜ boundsOk (frameOf f (now words)) ≡ true ⌝ }
     ensures { λ r. ⌜ foundOf r ≡ walk.walk (frameOf f (now (words .entry))) (now (words .entry)) (root .0) (number .0) ⌝ }
 {
@@ -77,7 +77,7 @@ pub fn walk(f: Frame, words: &[Word], root: PageNumber, number: PageNumber) -> F
         return found(
             f,
             words,
-            entry_at(f, words, root, page::pn2(number)),
+            entry_at(f, words, root, pages::pn2(number)),
             number,
         );
     }
@@ -132,7 +132,7 @@ pub fn lookup(
         return Answer::Allowed;
     }
     judge(
-        walk(f, words, register::ppn(register), page::page_of(a)),
+        walk(f, words, register::ppn(register), pages::page_of(a)),
         need,
         cause,
     )

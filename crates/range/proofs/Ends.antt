@@ -12,6 +12,9 @@ use Rattle.model.specs.Calls.{badRange}
 use Rattle.laws.proofs.Choices.{split}
 use Rattle.theory.proofs.Ranges.{good-range}
 use Rattle.laws.proofs.Frames.{bounds}
+use Rattle.types.specs.Range.{Fair}
+use Rattle.types.specs.Views.{requestOf}
+use Rattle.types.specs.declared.Request as code
 
 -- end - start < size, where start is no more than end, says end < start + size
 pub no-wrap : (e s n : ℕ) → s ≤ e → ltb (e - s) n ≡ ltb e (s + n)
@@ -31,3 +34,15 @@ pub lent-ends : (F : Frame) → F .layout .maxPaw ≤ 34 → boundsOk F ≡ true
 lent-ends F wide h =
     let b = bounds F h in
     omega (arith, b .room, pow-mono {i = F .paw - 12} {j = 22} (omega (arith, b .paw-high)))
+
+-- the code's request, where it is a good one
+pub fair-of : (F : Frame) (q : code.Request) → F .layout .maxPaw ≤ 56 → boundsOk F ≡ true → badRange F (requestOf q) ≡ false → q .permission < 4 → Fair q
+fair-of F q wide h g low =
+    let r = good-range F (requestOf q) g in
+    record {
+      small = low;
+      starts = r .startPage;
+      whole = r .sizePage;
+      some = r .some;
+      ends = omega (arith, r .ends, pow-mono {i = F .paw} {j = 56} (omega (arith, bounds F h .paw-high)));
+    }

@@ -1,8 +1,9 @@
 // Whether an edit may have its range: the two tests that document 01 makes of it.
+use types::pages::PAGE_BYTES;
 use types::Request;
 use types::Frame;
 use table::board::PAGE_WORDS;
-use table::lent::pow2;
+use types::bits::pow2;
 ghost use mathlib.Core.Path.{_≡_};
 ghost use mathlib.Core.Bool.{true, false, not, _&&_};
 ghost use lib.Dec.{eqb};
@@ -21,10 +22,10 @@ pub fn bad_range(f: Frame, n: usize, q: Request) -> bool
     if size == 0 {
         return true;
     }
-    if start % 4096 != 0 {
+    if start % PAGE_BYTES != 0 {
         return true;
     }
-    if size % 4096 != 0 {
+    if size % PAGE_BYTES != 0 {
         return true;
     }
     let end = pow2(f.paw);
@@ -45,8 +46,8 @@ pub fn on_lent_pages(f: Frame, n: usize, q: Request) -> bool
     if q.permission == 0 {
         return false;
     }
-    if (first + pages) * 4096 <= start {
+    if (first + pages) * PAGE_BYTES <= start {
         return false;
     }
-    first * 4096 < start + q.size
+    first * PAGE_BYTES < start + q.size
 }

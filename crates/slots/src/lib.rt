@@ -55,7 +55,7 @@ fn open_at(
     requires { ⌜ (frame.boundsOk (frameOf f (now words)) ≡ true) × (frame.lent (frameOf f (now words)) (root .0) ≡ true) × (slot < 8) × (sdid .0 < 64) ⌝ }
     ensures { λ r. ⌜ outcomeOf r (now (words .exit)) ≡ calls.openAt (frameOf f (now (words .entry))) (now (words .entry)) slots (root .0) slot (sdid .0) ⌝ }
 {
-    zero_page(words, lent::page_start(f, words.len(), root));
+    zero_page(words, lent::page_at(f, words, root));
     let mut after = slots;
     after[slot as usize] = register::new(sdid, root);
     Outcome {

@@ -9,9 +9,7 @@ use table::lent;
 use table::board::PAGE_WORDS;
 use table::board::RESERVED;
 use table::board::Word;
-use table::board::wide;
 use table::register;
-use table::store::read_word;
 use table::word;
 ghost use mathlib.Core.Path.{_≡_};
 ghost use mathlib.Core.Bool.{true, false};
@@ -31,7 +29,7 @@ fn clean(words: &[Word], at: usize) -> bool
 {
     let mut all: u64 = 0;
     for i in 0..PAGE_WORDS {
-        all |= read_word(words, at + i);
+        all |= words[at + i] as u64;
     }
     all & RESERVED == 0
 }
@@ -58,7 +56,7 @@ fn link(f: Frame, words: &[Word], page: PageNumber, used: &mut [bool; 256]) -> b
     ensures { λ r. ⌜ answer r (now (used .exit)) ≡ linkStep (frameOf f (now (words .entry))) (now (words .entry)) (now (used .entry)) (page .0) ⌝ }
 {
     if claim(f, words.len(), page, used) {
-        return clean(words, lent::page_start(f, words.len(), page));
+        return clean(words, lent::page_at(f, words, page));
     }
     false
 }
@@ -81,7 +79,7 @@ fn entries(f: Frame, words: &[Word], at: usize, count: usize, used: &mut [bool; 
     ensures { λ r. ⌜ answer r (now (used .exit)) ≡ scanRun (wordStep (frameOf f (now (words .entry))) (now (words .entry)) at) (now (used .entry)) count 0 ⌝ }
 {
     for b in 0..count {
-        if !entry(f, words, word::decode(read_word(words, at + b)), used) {
+        if !entry(f, words, word::decode(words[at + b]), used) {
             return false;
         }
     }
@@ -95,7 +93,7 @@ fn root(f: Frame, words: &[Word], page: PageNumber, used: &mut [bool; 256]) -> b
 {
     if claim(f, words.len(), page, used) {
         let count = lent::block_count(f, words.len());
-        let at = lent::page_start(f, words.len(), page);
+        let at = lent::page_at(f, words, page);
         return entries(f, words, at, count, used);
     }
     false

@@ -1,6 +1,6 @@
 -- The layout of this crate's board, and a frame of it.
 use mathlib.Core.List.{List}
-use Prim.Native.Nat.{ℕ, _*_, _/_, _^_}
+use Prim.Native.Nat.{ℕ, _*_, _/_, _-_, _^_}
 use lib.ListN.{length}
 use Rattle.model.specs.Layout.{Layout, pageBytes, piecePages, rv64}
 use Rattle.model.specs.Frame as frame
@@ -27,6 +27,10 @@ PIECEBYTES = piecePages board * pageBytes
 
 abbrev pub ROW : ℕ
 ROW = board .words / board .pieces
+
+-- blocks of the widest address space
+abbrev pub BLOCKS : ℕ
+BLOCKS = 2 ^ (board .maxPaw - 25)
 
 -- an entry is below this, and the INFO of a block by pieces below that
 abbrev pub ENTRY : ℕ

@@ -11,6 +11,9 @@ pub const PAGE_WORDS: usize = 512;
 
 pub const FIELDS: u64 = 16;
 
+// How many values a field has.
+pub const FIELD: u64 = 16;
+
 // "16 two-bit permissions, one per 2 MiB", and the TYPE that has them.
 pub const PIECES: u64 = 16;
 

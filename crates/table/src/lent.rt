@@ -1,13 +1,15 @@
 // The frame: its bounds, which pages are lent, and where their words stand.
 use types::Frame;
 use types::PageNumber;
+use types::bits::pow2;
 use crate::board::PAGE_WORDS;
 use crate::board::Word;
 ghost use mathlib.Core.Path.{_≡_};
 ghost use mathlib.Core.Bool.{true};
-ghost use Prim.Native.Nat.{_+_, _<_, _≤_, _^_};
+ghost use Prim.Native.Nat.{_+_, _-_, _≤_, _^_};
+ghost use lib.ListN.{length};
 ghost use Rattle.model.specs.Frame as frame;
-ghost use Rattle.table.specs.Board.{board, frameOf, frameOver};
+ghost use Rattle.table.specs.Board.{board, BLOCKS, frameOf, frameOver};
 
 // "PAW (30 to 34), lent table memory of 2 to 256 whole pages."
 const MIN_PAW: u64 = 30;
@@ -17,14 +19,6 @@ const MAX_PAW: u64 = 34;
 const MIN_PAGES: u64 = 2;
 
 const MAX_PAGES: u64 = 256;
-
-// A power of two.
-pub fn pow2(k: u64) -> u64
-    requires { ⌜ k < 64 ⌝ }
-    ensures { λ r. ⌜ r ≡ 2 ^ k ⌝ }
-{
-    1u64 << k
-}
 
 // A frame that breaks its bounds, or memory that is not whole pages, is refused by every call.
 pub fn frame_ok(f: Frame, words: &[Word]) -> bool
@@ -58,7 +52,7 @@ pub fn frame_ok(f: Frame, words: &[Word]) -> bool
 // "The first 2^(PAW-25) entries": the blocks of the address space.
 pub fn block_count(f: Frame, n: usize) -> usize
     requires { ⌜ frame.boundsOk (frameOver f n) ≡ true ⌝ }
-    ensures { λ r. ⌜ (r ≡ frame.blocks (frameOver f n)) × (r ≤ 512) ⌝ }
+    ensures { λ r. ⌜ (r ≡ frame.blocks (frameOver f n)) × (r ≤ BLOCKS) ⌝ }
 {
     pow2(f.paw - 25) as usize
 }
@@ -66,7 +60,7 @@ pub fn block_count(f: Frame, n: usize) -> usize
 // The pages of the address space: "2^(PAW-12)".
 pub fn page_count(f: Frame, n: usize) -> u64
     requires { ⌜ frame.boundsOk (frameOver f n) ≡ true ⌝ }
-    ensures { λ r. ⌜ (r ≡ frame.space (frameOver f n)) × (r ≤ 2 ^ 22) ⌝ }
+    ensures { λ r. ⌜ (r ≡ frame.space (frameOver f n)) × (r ≤ 2 ^ (board .maxPaw - 12)) ⌝ }
 {
     pow2(f.paw - 12)
 }
@@ -84,9 +78,9 @@ pub fn is_lent(f: Frame, n: usize, page: PageNumber) -> bool
 }
 
 // Where the words of a lent page start: all are inside.
-pub fn page_start(f: Frame, n: usize, page: PageNumber) -> usize
-    requires { ⌜ frame.lent (frameOver f n) (page .0) ≡ true ⌝ }
-    ensures { λ r. ⌜ (r ≡ frame.indexOf (frameOver f n) (page .0) 0) × (r + board .words ≤ n) ⌝ }
+pub fn page_at(f: Frame, words: &[Word], page: PageNumber) -> usize
+    requires { ⌜ frame.lent (frameOf f (now words)) (page .0) ≡ true ⌝ }
+    ensures { λ r. ⌜ (r ≡ frame.indexOf (frameOf f (now (words .entry))) (page .0) 0) × (r + board .words ≤ length (now (words .entry))) ⌝ }
 {
     (page.0 - f.first.0) as usize * PAGE_WORDS
 }

@@ -3,5 +3,6 @@ pub mod board;
 pub mod lent;
 pub mod page;
 pub mod register;
+pub mod root;
 pub mod store;
 pub mod word;

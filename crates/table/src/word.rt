@@ -5,6 +5,7 @@ use types::PageNumber;
 use crate::board::PIECE_INFO;
 use crate::board::PIECE_TYPE;
 use crate::board::TYPE;
+use crate::board::Word;
 use types::rights::permission_of;
 ghost use mathlib.Core.Path.{_≡_};
 ghost use Prim.Native.Nat.{_<_};
@@ -15,11 +16,12 @@ ghost use Rattle.types.specs.Views.{entryOf, foundOf};
 ghost use Rattle.table.specs.Bounds.{Small};
 
 // What an L2 entry says. TYPE is taken with ZERO above it: a number above 7 is no type. The page number of an L1 page is all of INFO.
-pub fn decode(word: u64) -> Entry
+pub fn decode(word: Word) -> Entry
     ensures { λ r. ⌜ (entryOf r ≡ entry.decode board word) × Small (entryOf r) ⌝ }
 {
-    let info = word % TYPE;
-    let kind = word / TYPE;
+    let number = word as u64;
+    let info = number % TYPE;
+    let kind = number / TYPE;
     if kind < 4 {
         if info == 0 {
             return Entry::Flat(kind);
@@ -46,15 +48,15 @@ pub fn piece(info: u64, i: u64) -> u64
 }
 
 // Field i of an L1 entry.
-pub fn field(word: u64, i: u64) -> u64
+pub fn field(word: Word, i: u64) -> u64
     requires { ⌜ i < board .fields ⌝ }
     ensures { λ r. ⌜ (r ≡ digit 16 word i) × (r < 16) ⌝ }
 {
-    (word >> (4 * i)) % 16
+    (word as u64 >> (4 * i)) % 16
 }
 
 // What field i of an L1 entry says: its permission, or a fault where one of its own reserved bits is set.
-pub fn field_found(word: u64, i: u64) -> Found
+pub fn field_found(word: Word, i: u64) -> Found
     requires { ⌜ i < board .fields ⌝ }
     ensures { λ r. ⌜ foundOf r ≡ entry.fieldOf board word i ⌝ }
 {

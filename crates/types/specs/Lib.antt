@@ -1,2 +1,4 @@
--- Views: the code's types as the model's, with document 01's number for each case.
+--   Views   the code's types as the model's, with document 01's number for each case
+--   Range   what the contracts ask of a range, and what they say of where pages lie
 pub mod Views
+pub mod Range

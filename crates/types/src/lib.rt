@@ -1,5 +1,8 @@
 // The types of the monitor, the same on every board, and what is said of them alone.
+pub mod bits;
+pub mod blocks;
 pub mod number;
+pub mod pages;
 pub mod rights;
 
 // A page number, an address and an SDID are different kinds.

@@ -20,13 +20,13 @@ use Rattle.edit.proofs.make.Tie as tie
 use Rattle.table.specs.Board.{frameOf}
 
 all-made : (c : tie.After-struct-known) → let a = c .before .before .before .before .before .before .before .before .args in let r = c .before .before .before .before .before .stores in
-    run (record { more = a .limit; last = 0 }) (wholeList (frameOf (a .f) (a .words .now)) (a .words .now) (requestOf (a .q)) (a .root .0) (freeList (a .free))) (a .words .now) ≡ whole (r .result .left) (r .last .1 .0)
+    run (record { more = a .limit; last = 0 }) (wholeList (frameOf (a .edit .f) (a .words .now)) (a .words .now) (requestOf (a .edit .q)) (a .edit .root .0) (freeList (a .free))) (a .words .now) ≡ whole (r .result .left) (r .last .1 .0)
 all-made c =
     let r = c .before .before .before .before .before .stores in
     sym (r .ensures) ∙ out-whole (r .result .all) (r .result .left) (r .last .1 .0) (c .before .if1 .taken)
 
 was-cut : (c : tie.Else1) → let a = c .before .before .before .before .before .before .before .args in let r = c .before .before .before .before .stores in
-    run (record { more = a .limit; last = 0 }) (wholeList (frameOf (a .f) (a .words .now)) (a .words .now) (requestOf (a .q)) (a .root .0) (freeList (a .free))) (a .words .now) ≡ cut (r .last .1 .0)
+    run (record { more = a .limit; last = 0 }) (wholeList (frameOf (a .edit .f) (a .words .now)) (a .words .now) (requestOf (a .edit .q)) (a .edit .root .0) (freeList (a .free))) (a .words .now) ≡ cut (r .last .1 .0)
 was-cut c =
     let r = c .before .before .before .before .stores in
     sym (r .ensures) ∙ out-cut (r .result .all) (r .result .left) (r .last .1 .0) (c .if1 .left)
@@ -38,16 +38,16 @@ sub-count : tie.Need-sub-count
 sub-count c =
     let a = c .before .before .before .before .before .before .before .before .args in
     let r = c .before .before .before .before .before .stores in
-    omega (arith, all-fits (frameOf (a .f) (a .words .now)) (requestOf (a .q)) (a .root .0) (a .sdid .0) (wholeList (frameOf (a .f) (a .words .now)) (a .words .now) (requestOf (a .q)) (a .root .0) (freeList (a .free))) (a .limit) (a .words .now) (r .result .left) (r .last .1 .0) (all-made c))
+    omega (arith, all-fits (frameOf (a .edit .f) (a .words .now)) (requestOf (a .edit .q)) (a .edit .root .0) (a .sdid .0) (wholeList (frameOf (a .edit .f) (a .words .now)) (a .words .now) (requestOf (a .edit .q)) (a .edit .root .0) (freeList (a .free))) (a .limit) (a .words .now) (r .result .left) (r .last .1 .0) (all-made c))
 
 fence-of-requires : tie.Need-fence-of-requires
 fence-of-requires c κs =
     let s = c .before .before .before .before .before .before .before .before .before in
     let r = c .before .before .before .before .before .before .stores in
-    let back : (X : Frame → Type 0) → X (frameOf (s .args .f) (s .args .words .now)) → X (frameOf (s .args .f) (r .last .1 .0))
-    = λ X. subst X (sym (frame-same (s .args .f) (r .last .1 .0) (s .args .words .now) (r .kept .1 .0))) in (
-      back (λ X. lent X (s .args .root .0) ≡ true) (root-lent (s .args .f) (s .args .words .now) (requestOf (s .args .q)) (s .args .root .0) (freeList (s .args .free)) (s .pre)),
-      back (λ X. boundsOk X ≡ true) (bounds-in (s .args .f) (s .args .words .now) (requestOf (s .args .q)) (s .args .root .0) (freeList (s .args .free)) (s .pre)),
+    let back : (X : Frame → Type 0) → X (frameOf (s .args .edit .f) (s .args .words .now)) → X (frameOf (s .args .edit .f) (r .last .1 .0))
+    = λ X. subst X (sym (frame-same (s .args .edit .f) (r .last .1 .0) (s .args .words .now) (r .kept .1 .0))) in (
+      back (λ X. lent X (s .args .edit .root .0) ≡ true) (root-lent (s .args .edit .f) (s .args .words .now) (requestOf (s .args .edit .q)) (s .args .edit .root .0) (freeList (s .args .free)) (s .pre)),
+      back (λ X. boundsOk X ≡ true) (bounds-in (s .args .edit .f) (s .args .words .now) (requestOf (s .args .edit .q)) (s .args .edit .root .0) (freeList (s .args .free)) (s .pre)),
     )
 
 same-length : tie.Need-same-length
@@ -58,25 +58,25 @@ returns c =
     let b = c .before .before in
     let a = b .before .before .before .before .before .before .before .before .args in
     let r = b .before .before .before .before .before .stores in
-    let F = frameOf (a .f) (a .words .now) in
-    let list : List Store = wholeList (frameOf (a .f) (a .words .now)) (a .words .now) (requestOf (a .q)) (a .root .0) (freeList (a .free)) in
+    let F = frameOf (a .edit .f) (a .words .now) in
+    let list : List Store = wholeList (frameOf (a .edit .f) (a .words .now)) (a .words .now) (requestOf (a .edit .q)) (a .edit .root .0) (freeList (a .free)) in
     record {
-      memory = all-memory F (requestOf (a .q)) (a .root .0) (a .sdid .0) list (a .limit) (a .words .now) (r .result .left) (r .last .1 .0) (all-made b);
-      count = all-count F (requestOf (a .q)) (a .root .0) (a .sdid .0) list (a .limit) (a .words .now) (r .result .left) (r .last .1 .0) (all-made b);
-      all = all-true F (requestOf (a .q)) (a .root .0) (a .sdid .0) list (a .limit) (a .words .now) (r .result .left) (r .last .1 .0) (all-made b);
+      memory = all-memory F (requestOf (a .edit .q)) (a .edit .root .0) (a .sdid .0) list (a .limit) (a .words .now) (r .result .left) (r .last .1 .0) (all-made b);
+      count = all-count F (requestOf (a .edit .q)) (a .edit .root .0) (a .sdid .0) list (a .limit) (a .words .now) (r .result .left) (r .last .1 .0) (all-made b);
+      all = all-true F (requestOf (a .edit .q)) (a .edit .root .0) (a .sdid .0) list (a .limit) (a .words .now) (r .result .left) (r .last .1 .0) (all-made b);
       asked =
-          subst (λ (X : Frame). fenceOf (c .fence-of .result) ≡ fenceAfter X (requestOf (a .q)) (a .root .0) (a .sdid .0) (a .limit - r .result .left .more) true (r .result .left .last)) (frame-same (a .f) (r .last .1 .0) (a .words .now) (r .kept .1 .0)) (c .fence-of .ensures)
-          ∙ all-fence F (requestOf (a .q)) (a .root .0) (a .sdid .0) list (a .limit) (a .words .now) (r .result .left) (r .last .1 .0) (all-made b);
+          subst (λ (X : Frame). fenceOf (c .fence-of .result) ≡ fenceAfter X (requestOf (a .edit .q)) (a .edit .root .0) (a .sdid .0) (a .limit - r .result .left .more) true (r .result .left .last)) (frame-same (a .edit .f) (r .last .1 .0) (a .words .now) (r .kept .1 .0)) (c .fence-of .ensures)
+          ∙ all-fence F (requestOf (a .edit .q)) (a .edit .root .0) (a .sdid .0) list (a .limit) (a .words .now) (r .result .left) (r .last .1 .0) (all-made b);
     }
 
 fence-of-requires-2 : tie.Need-fence-of-requires-2
 fence-of-requires-2 c κs =
     let s = c .before .before .before .before .before .before .before .before in
     let r = c .before .before .before .before .before .stores in
-    let back : (X : Frame → Type 0) → X (frameOf (s .args .f) (s .args .words .now)) → X (frameOf (s .args .f) (r .last .1 .0))
-    = λ X. subst X (sym (frame-same (s .args .f) (r .last .1 .0) (s .args .words .now) (r .kept .1 .0))) in (
-      back (λ X. lent X (s .args .root .0) ≡ true) (root-lent (s .args .f) (s .args .words .now) (requestOf (s .args .q)) (s .args .root .0) (freeList (s .args .free)) (s .pre)),
-      back (λ X. boundsOk X ≡ true) (bounds-in (s .args .f) (s .args .words .now) (requestOf (s .args .q)) (s .args .root .0) (freeList (s .args .free)) (s .pre)),
+    let back : (X : Frame → Type 0) → X (frameOf (s .args .edit .f) (s .args .words .now)) → X (frameOf (s .args .edit .f) (r .last .1 .0))
+    = λ X. subst X (sym (frame-same (s .args .edit .f) (r .last .1 .0) (s .args .words .now) (r .kept .1 .0))) in (
+      back (λ X. lent X (s .args .edit .root .0) ≡ true) (root-lent (s .args .edit .f) (s .args .words .now) (requestOf (s .args .edit .q)) (s .args .edit .root .0) (freeList (s .args .free)) (s .pre)),
+      back (λ X. boundsOk X ≡ true) (bounds-in (s .args .edit .f) (s .args .words .now) (requestOf (s .args .edit .q)) (s .args .edit .root .0) (freeList (s .args .free)) (s .pre)),
     )
 
 same-length-2 : tie.Need-same-length-2
@@ -87,15 +87,15 @@ returns-2 c =
     let b = c .before .before in
     let a = b .before .before .before .before .before .before .before .args in
     let r = b .before .before .before .before .stores in
-    let F = frameOf (a .f) (a .words .now) in
-    let list : List Store = wholeList (frameOf (a .f) (a .words .now)) (a .words .now) (requestOf (a .q)) (a .root .0) (freeList (a .free)) in
+    let F = frameOf (a .edit .f) (a .words .now) in
+    let list : List Store = wholeList (frameOf (a .edit .f) (a .words .now)) (a .words .now) (requestOf (a .edit .q)) (a .edit .root .0) (freeList (a .free)) in
     record {
-      memory = cut-memory F (requestOf (a .q)) (a .root .0) (a .sdid .0) list (a .limit) (a .words .now) (r .last .1 .0) (was-cut b);
-      count = cut-count F (requestOf (a .q)) (a .root .0) (a .sdid .0) list (a .limit) (a .words .now) (r .last .1 .0) (was-cut b);
-      all = cut-false F (requestOf (a .q)) (a .root .0) (a .sdid .0) list (a .limit) (a .words .now) (r .last .1 .0) (was-cut b);
+      memory = cut-memory F (requestOf (a .edit .q)) (a .edit .root .0) (a .sdid .0) list (a .limit) (a .words .now) (r .last .1 .0) (was-cut b);
+      count = cut-count F (requestOf (a .edit .q)) (a .edit .root .0) (a .sdid .0) list (a .limit) (a .words .now) (r .last .1 .0) (was-cut b);
+      all = cut-false F (requestOf (a .edit .q)) (a .edit .root .0) (a .sdid .0) list (a .limit) (a .words .now) (r .last .1 .0) (was-cut b);
       asked =
-          subst (λ (X : Frame). fenceOf (c .fence-of2 .result) ≡ fenceAfter X (requestOf (a .q)) (a .root .0) (a .sdid .0) (a .limit) false 0) (frame-same (a .f) (r .last .1 .0) (a .words .now) (r .kept .1 .0)) (c .fence-of2 .ensures)
-          ∙ cut-fence F (requestOf (a .q)) (a .root .0) (a .sdid .0) list (a .limit) (a .words .now) (r .last .1 .0) (was-cut b);
+          subst (λ (X : Frame). fenceOf (c .fence-of2 .result) ≡ fenceAfter X (requestOf (a .edit .q)) (a .edit .root .0) (a .sdid .0) (a .limit) false 0) (frame-same (a .edit .f) (r .last .1 .0) (a .words .now) (r .kept .1 .0)) (c .fence-of2 .ensures)
+          ∙ cut-fence F (requestOf (a .edit .q)) (a .edit .root .0) (a .sdid .0) list (a .limit) (a .words .now) (r .last .1 .0) (was-cut b);
     }
 
 pub make-spec : {M : Type 1} → statement M

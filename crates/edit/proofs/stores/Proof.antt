@@ -12,19 +12,19 @@ use Rattle.edit.proofs.Turns.{Turn, turn-start, turn-rooted, turn-room,
 use Rattle.edit.proofs.Going.{size}
 use Rattle.entries.proofs.Runs.{out-whole, out-cut}
 use Rattle.types.specs.declared.Gib.{Gib}
-use Rattle.range.specs.Kinds.{Fair}
+use Rattle.types.specs.Range.{Fair}
 use Rattle.edit.proofs.stores.Statement.{statement}
 use Rattle.types.specs.Views.{requestOf, freeList}
 use Rattle.edit.proofs.stores.Tie as tie
 
 abbrev Inv-loop : tie.InvT-loop
-Inv-loop f words₀ q root free end b₀ gib₀ next₀ left₀ words b gib next left = Turn f words₀ (requestOf q) (root .0) (freeList free) left₀ end words b gib next left
+Inv-loop edit words₀ free end b₀ gib₀ next₀ left₀ words b gib next left = Turn (edit .f) words₀ (requestOf (edit .q)) (edit .root .0) (freeList free) left₀ end words b gib next left
 
 abbrev μ-loop : tie.MeasureT-loop
-μ-loop f words₀ q root free end b₀ gib₀ next₀ left₀ words b gib next left = end - b
+μ-loop edit words₀ free end b₀ gib₀ next₀ left₀ words b gib next left = end - b
 
-known : (c : tie.After-struct-known Inv-loop μ-loop) → let a = c .before .before .args in Facts (a .f) (a .words .now) (requestOf (a .q)) (a .root .0) (freeList (a .free))
-known c = let s = c .before .before in facts (s .args .f) (s .args .words .now) (requestOf (s .args .q)) (s .args .root .0) (freeList (s .args .free)) (s .pre)
+known : (c : tie.After-struct-known Inv-loop μ-loop) → let a = c .before .before .args in Facts (a .edit .f) (a .words .now) (requestOf (a .edit .q)) (a .edit .root .0) (freeList (a .free))
+known c = let s = c .before .before in facts (s .args .edit .f) (s .args .words .now) (requestOf (s .args .edit .q)) (s .args .edit .root .0) (freeList (s .args .free)) (s .pre)
 
 fair : {f : code.Frame} {m : List ℕ} {q : code′.Request} {root : ℕ} {free : List ℕ} → Facts f m (requestOf q) root free → Fair q
 fair k = record { small = k .low; ends = k .ends }
@@ -47,16 +47,16 @@ mul-b c = let k = known (c .before) in record { fits = omega (arith, k .ends) }
 loop-holds : tie.Need-loop-holds Inv-loop μ-loop
 loop-holds c =
     let a = c .before .before .before .args in
-    turn-start (a .f) (a .words .now) (requestOf (a .q)) (a .root .0) (freeList (a .free)) (a .limit) (known (c .before)) _ _ _ refl refl
+    turn-start (a .edit .f) (a .words .now) (requestOf (a .edit .q)) (a .edit .root .0) (freeList (a .free)) (a .limit) (known (c .before)) _ _ _ refl refl
 
 gib-at-requires : tie.Need-gib-at-requires Inv-loop μ-loop
 gib-at-requires c κs =
     let l = c .before .before in
     let a = l .before .before .before .before .args in (
-      turn-rooted (a .f) (a .words .now) (requestOf (a .q)) (a .root .0) (freeList (a .free)) (a .limit) _ (l .loop .words) (l .loop .b) (l .loop .gib) (l .loop .next) (l .loop .left) (l .loop .inv) (omega arith),
-      turn-room (a .f) (a .words .now) (requestOf (a .q)) (a .root .0) (freeList (a .free)) (a .limit) _ (l .loop .words) (l .loop .b) (l .loop .gib) (l .loop .next) (l .loop .left) (l .loop .inv) (omega arith),
+      turn-rooted (a .edit .f) (a .words .now) (requestOf (a .edit .q)) (a .edit .root .0) (freeList (a .free)) (a .limit) _ (l .loop .words) (l .loop .b) (l .loop .gib) (l .loop .next) (l .loop .left) (l .loop .inv) (omega arith),
+      turn-room (a .edit .f) (a .words .now) (requestOf (a .edit .q)) (a .edit .root .0) (freeList (a .free)) (a .limit) _ (l .loop .words) (l .loop .b) (l .loop .gib) (l .loop .next) (l .loop .left) (l .loop .inv) (omega arith),
       fair (l .loop .inv .k),
-      turn-flag (a .f) (a .words .now) (requestOf (a .q)) (a .root .0) (freeList (a .free)) (a .limit) _ (l .loop .words) (l .loop .b) (l .loop .gib) (l .loop .next) (l .loop .left) (l .loop .inv) (omega arith),
+      turn-flag (a .edit .f) (a .words .now) (requestOf (a .edit .q)) (a .edit .root .0) (freeList (a .free)) (a .limit) _ (l .loop .words) (l .loop .b) (l .loop .gib) (l .loop .next) (l .loop .left) (l .loop .inv) (omega arith),
     )
 
 next-blocks-requires : tie.Need-next-blocks-requires Inv-loop μ-loop
@@ -64,14 +64,14 @@ next-blocks-requires c κs =
     let l = c .before .before .before .before in
     let a = l .before .before .before .before .args in
     let t = l .loop .inv in (
-      turn-rooted (a .f) (a .words .now) (requestOf (a .q)) (a .root .0) (freeList (a .free)) (a .limit) _ (l .loop .words) (l .loop .b) (l .loop .gib) (l .loop .next) (l .loop .left) t (omega arith),
-      turn-room (a .f) (a .words .now) (requestOf (a .q)) (a .root .0) (freeList (a .free)) (a .limit) _ (l .loop .words) (l .loop .b) (l .loop .gib) (l .loop .next) (l .loop .left) t (omega arith),
+      turn-rooted (a .edit .f) (a .words .now) (requestOf (a .edit .q)) (a .edit .root .0) (freeList (a .free)) (a .limit) _ (l .loop .words) (l .loop .b) (l .loop .gib) (l .loop .next) (l .loop .left) t (omega arith),
+      turn-room (a .edit .f) (a .words .now) (requestOf (a .edit .q)) (a .edit .root .0) (freeList (a .free)) (a .limit) _ (l .loop .words) (l .loop .b) (l .loop .gib) (l .loop .next) (l .loop .left) t (omega arith),
       fair (t .k),
       c .before .gib-at .ensures .2,
       omega (arith, t .going .taken, t .k .few),
-      turn-fresh (a .f) (a .words .now) (requestOf (a .q)) (a .root .0) (freeList (a .free)) (a .limit) _ (l .loop .words) (l .loop .b) (l .loop .gib) (l .loop .next) (l .loop .left) t (omega arith)
+      turn-fresh (a .edit .f) (a .words .now) (requestOf (a .edit .q)) (a .edit .root .0) (freeList (a .free)) (a .limit) _ (l .loop .words) (l .loop .b) (l .loop .gib) (l .loop .next) (l .loop .left) t (omega arith)
           (c .before .gib-at .result) (c .before .gib-at .ensures),
-      turn-ahead (a .f) (a .words .now) (requestOf (a .q)) (a .root .0) (freeList (a .free)) (a .limit) _ (l .loop .words) (l .loop .b) (l .loop .gib) (l .loop .next) (l .loop .left) t (omega arith)
+      turn-ahead (a .edit .f) (a .words .now) (requestOf (a .edit .q)) (a .edit .root .0) (freeList (a .free)) (a .limit) _ (l .loop .words) (l .loop .b) (l .loop .gib) (l .loop .next) (l .loop .left) t (omega arith)
           (c .before .gib-at .result) (c .before .gib-at .ensures),
     )
 
@@ -80,7 +80,7 @@ same-length c =
     let l = c .before .before .before .before .before .before .before .before .before in
     let a = l .before .before .before .before .args in
     let t = l .loop .inv in
-    c .before .before .before .before .next-blocks .kept .1 .0 ∙ size (a .f) (a .words .now) (requestOf (a .q)) (a .root .0) (freeList (a .free)) (t .k) (a .limit) (l .loop .words) (l .loop .b) (l .loop .next) (l .loop .left) (t .going)
+    c .before .before .before .before .next-blocks .kept .1 .0 ∙ size (a .edit .f) (a .words .now) (requestOf (a .edit .q)) (a .edit .root .0) (freeList (a .free)) (t .k) (a .limit) (l .loop .words) (l .loop .b) (l .loop .next) (l .loop .left) (t .going)
 
 returns : tie.Need-returns Inv-loop μ-loop
 returns c =
@@ -90,7 +90,7 @@ returns c =
     let r = c .before .before .before .before .next-blocks in
     let g = c .before .before .before .before .before .before .gib-at in
     let z = out-cut (r .result .all) (r .result .left) (r .last .1 .0) (not-true (r .result .all) (c .if1 .taken)) in
-    sym z ∙ turn-cut (a .f) (a .words .now) (requestOf (a .q)) (a .root .0) (freeList (a .free)) (a .limit) _ (l .loop .words) (l .loop .b) (l .loop .gib) (l .loop .next) (l .loop .left) t (c .before .before .before .before .before .before .before .before .loop-test .taken)
+    sym z ∙ turn-cut (a .edit .f) (a .words .now) (requestOf (a .edit .q)) (a .edit .root .0) (freeList (a .free)) (a .limit) _ (l .loop .words) (l .loop .b) (l .loop .gib) (l .loop .next) (l .loop .left) t (c .before .before .before .before .before .before .before .before .loop-test .taken)
     (g .result) (g .ensures) (r .result .count) (r .ensures .within) _ (r .ensures .made) z
 
 add-b : tie.Need-add-b Inv-loop μ-loop
@@ -110,7 +110,7 @@ loop-again c =
     let r = c .before .before .before .before .before .before .next-blocks in
     let g = c .before .before .before .before .before .before .before .before .gib-at in
     let z = out-whole (r .result .all) (r .result .left) (r .last .1 .0) (not-false (r .result .all) (c .before .before .if1 .left)) in
-    turn-next (a .f) (a .words .now) (requestOf (a .q)) (a .root .0) (freeList (a .free)) (a .limit) _ (l .loop .words) (l .loop .b) (l .loop .gib) (l .loop .next) (l .loop .left) t (c .before .before .before .before .before .before .before .before .before .before .loop-test .taken)
+    turn-next (a .edit .f) (a .words .now) (requestOf (a .edit .q)) (a .edit .root .0) (freeList (a .free)) (a .limit) _ (l .loop .words) (l .loop .b) (l .loop .gib) (l .loop .next) (l .loop .left) t (c .before .before .before .before .before .before .before .before .before .before .loop-test .taken)
     (g .result) (g .ensures) (r .result .count) (r .ensures .within) _ (r .ensures .made) z (r .result .next) (r .ensures .pages)
 
 same-length-2 : tie.Need-same-length-2 Inv-loop μ-loop
@@ -118,13 +118,13 @@ same-length-2 c =
     let l = c .before in
     let a = l .before .before .before .before .args in
     let t = l .loop .inv in
-    size (a .f) (a .words .now) (requestOf (a .q)) (a .root .0) (freeList (a .free)) (t .k) (a .limit) (l .loop .words) (l .loop .b) (l .loop .next) (l .loop .left) (t .going)
+    size (a .edit .f) (a .words .now) (requestOf (a .edit .q)) (a .edit .root .0) (freeList (a .free)) (t .k) (a .limit) (l .loop .words) (l .loop .b) (l .loop .next) (l .loop .left) (t .going)
 
 returns-2 : tie.Need-returns-2 Inv-loop μ-loop
 returns-2 c =
     let l = c .before in
     let a = l .before .before .before .before .args in
-    turn-end (a .f) (a .words .now) (requestOf (a .q)) (a .root .0) (freeList (a .free)) (a .limit) _ (l .loop .words) (l .loop .b) (l .loop .gib) (l .loop .next) (l .loop .left) (l .loop .inv) (c .loop-test .left)
+    turn-end (a .edit .f) (a .words .now) (requestOf (a .edit .q)) (a .edit .root .0) (freeList (a .free)) (a .limit) _ (l .loop .words) (l .loop .b) (l .loop .gib) (l .loop .next) (l .loop .left) (l .loop .inv) (c .loop-test .left)
 
 pub stores-spec : {M : Type 1} → statement M
 stores-spec =

@@ -14,8 +14,8 @@ use Rattle.lookup.proofs.in_table.Tie as tie
 is-lent-requires : tie.Need-is-lent-requires
 is-lent-requires c κs = search needs
 
-page-start-requires : tie.Need-page-start-requires
-page-start-requires c κs = sym (c .before .is-lent .ensures) ∙ c .if1 .taken
+page-at-requires : tie.Need-page-at-requires
+page-at-requires c κs = sym (c .before .is-lent .ensures) ∙ c .if1 .taken
 
 pn1-requires : tie.Need-pn1-requires
 pn1-requires c κs = search needs
@@ -23,8 +23,11 @@ pn1-requires c κs = search needs
 add-at : tie.Need-add-at
 add-at c = search needs
 
-read-word-requires : tie.Need-read-word-requires
-read-word-requires c κs = search needs
+mul-field-found : tie.Need-mul-field-found
+mul-field-found c = search needs
+
+shared-slice-read-field-found : tie.Need-shared-slice-read-field-found
+shared-slice-read-field-found c = search needs
 
 pn0-requires : tie.Need-pn0-requires
 pn0-requires c κs = search needs
@@ -42,7 +45,7 @@ returns c = let z = c .before in
     let a = b .before .before .before .args in
     rw (sym (b .before .is-lent .ensures) ∙ b .if1 .taken)
     (c .field-found .ensures
-    ∙ ap (λ (w : ℕ). fieldOf board w (z .pn0 .result)) (s .read-word .ensures .0 ∙ word-at _ _ _ _ _ (p .page-start .ensures .0))
+    ∙ ap (λ (w : ℕ). fieldOf board w (z .pn0 .result)) (word-at _ _ _ _ _ (p .page-at .ensures .0))
     ∙ ap₂ (λ (i j : ℕ). fieldOf board (wordAt (frameOf (a .f) (now (a .words))) (now (a .words)) (a .table .0) i) j) (o .pn1 .ensures .0) (z .pn0 .ensures .0))
 
 returns-2 : tie.Need-returns-2
@@ -54,10 +57,11 @@ in-table-spec =
     tie.close
     (tie.spec
     is-lent-requires
-    page-start-requires
+    page-at-requires
     pn1-requires
     add-at
-    read-word-requires
+    mul-field-found
+    shared-slice-read-field-found
     pn0-requires
     field-found-requires
     returns

@@ -14,8 +14,8 @@ use Rattle.slots.proofs.Refusals.{opened-at}
 use Rattle.slots.proofs.open_at.Statement.{statement}
 use Rattle.slots.proofs.open_at.Tie as tie
 
-page-start-requires : tie.Need-page-start-requires
-page-start-requires c κs = search needs
+page-at-requires : tie.Need-page-at-requires
+page-at-requires c κs = search needs
 
 zero-page-requires : tie.Need-zero-page-requires
 zero-page-requires c κs = search needs
@@ -40,14 +40,14 @@ returns c = let z = c .before .before .before in
     let a = z .before .before .before .before .args in
     let m = now (a .words) in
     ap₂ (λ (mem : List ℕ) (reg : ℕ). record { reply = calls.opened; memory = mem; slots = set (a .slots) (a .slot) reg; fence = noFence })
-    (z .zero-page .ensures ∙ ap (zeroed m) (z .before .page-start .ensures .0)) (c .new .ensures)
+    (z .zero-page .ensures ∙ ap (zeroed m) (z .before .page-at .ensures .0)) (c .new .ensures)
     ∙ sym (opened-at (a .f) m (a .slots) (a .slot) (a .sdid .0) (a .root .0))
 
 pub open-at-spec : {M : Type 1} → statement M
 open-at-spec =
     tie.close
     (tie.spec
-    page-start-requires
+    page-at-requires
     zero-page-requires
     new-requires
     mul-after

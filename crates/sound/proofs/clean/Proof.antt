@@ -4,6 +4,7 @@ use mathlib.Core.Bool.{Bool, _&&_}
 use mathlib.Core.List.{List}
 use Prim.Native.Nat.{ℕ, _+_, _-_, _≤_, _<_}
 use native.Mathlib.Omega.{arith}
+use borrow.Author.Needs.{needs}
 use lib.Bits.{bitAnd, bitOr}
 use lib.Dec.{eqb}
 use lib.ListN.{getD}
@@ -32,11 +33,14 @@ abbrev μ-loop : tie.MeasureT-loop
 loop-holds : tie.Need-loop-holds Inv-loop μ-loop
 loop-holds c = (omega arith, refl)
 
-add-read-word : tie.Need-add-read-word Inv-loop μ-loop
-add-read-word c = omega arith
+add-all : tie.Need-add-all Inv-loop μ-loop
+add-all c = omega arith
 
-read-word-requires : tie.Need-read-word-requires Inv-loop μ-loop
-read-word-requires c κs = omega arith
+mul-all : tie.Need-mul-all Inv-loop μ-loop
+mul-all c = search needs
+
+shared-slice-read-all : tie.Need-shared-slice-read-all Inv-loop μ-loop
+shared-slice-read-all c = omega arith
 
 add-i : tie.Need-add-i Inv-loop μ-loop
 add-i c = omega arith
@@ -47,19 +51,18 @@ loop-less c = omega arith
 loop-again : tie.Need-loop-again Inv-loop μ-loop
 loop-again c =
     let l = c .before .before in
-    let a = l .before .before .args in
+    let a = l .before .args in
     let h : l .loop .i < W = omega arith in
     let rest : Bool = every (test (a .words .now) (a .at)) (W - (l .loop .i + 1)) (l .loop .i + 1) in (
       omega arith,
       l .loop .inv .1
           ∙ ap (λ (b : Bool). eqb (bitAnd (l .loop .all) (reserved board)) 0 && b) (every-next (test (a .words .now) (a .at)) W (l .loop .i) h)
-          ∙ gathered board (l .loop .all) (getD (a .words .now) (a .at + l .loop .i) 0) rest
-          ∙ ap (λ (x : ℕ). eqb (bitAnd (bitOr (l .loop .all) x) (reserved board)) 0 && rest) (sym (c .read-word .ensures .0)),
+          ∙ gathered board (l .loop .all) (getD (a .words .now) (a .at + l .loop .i) 0) rest,
     )
 
 returns : tie.Need-returns Inv-loop μ-loop
 returns c = let l = c .before in
-    let a = l .before .before .args in
+    let a = l .before .args in
     let h : W ≤ l .loop .i = omega arith in
     sym (l .loop .inv .1
     ∙ ap (λ (b : Bool). eqb (bitAnd (l .loop .all) (reserved board)) 0 && b) (every-none (test (a .words .now) (a .at)) W (l .loop .i) h)
@@ -72,8 +75,9 @@ clean-spec =
     Inv-loop
     μ-loop
     loop-holds
-    add-read-word
-    read-word-requires
+    add-all
+    mul-all
+    shared-slice-read-all
     add-i
     loop-less
     loop-again

@@ -6,8 +6,7 @@ use lib.ListN.{length}
 use denote.Ref.{now}
 use borrow.Author.Needs.{needs}
 use borrow.Author.Tests.{not-true, not-false}
-use Rattle.model.specs.Entry.{decode}
-use Rattle.table.specs.Board.{board, frameOf}
+use Rattle.table.specs.Board.{frameOf}
 use Rattle.scan.specs.Scan.{answer, scanRun, entryStep, wordStep}
 use Rattle.scan.proofs.Steps.{run-start, run-on, run-stopped, run-ended}
 use Rattle.sound.proofs.entries.Statement.{statement}
@@ -24,16 +23,19 @@ abbrev μ-loop : tie.MeasureT-loop
 said : (c : tie.After-entry Inv-loop μ-loop) → let l = c .before .before .before .before .before in let a = l .before .before .args in
     answer (c .entry .result) (c .entry .last .1 .1 .1 .0)
     ≡ wordStep (frameOf (a .f) (now (a .words))) (now (a .words)) (a .at) (l .loop .used) (l .loop .b)
-said c = c .entry .ensures ∙ ap (entryStep _ _ _) (c .before .before .decode .ensures .0 ∙ ap (decode board) (c .before .before .before .read-word .ensures .0))
+said c = c .entry .ensures ∙ ap (entryStep _ _ _) (c .before .before .decode .ensures .0)
 
 loop-holds : tie.Need-loop-holds Inv-loop μ-loop
 loop-holds c = (omega arith, omega arith, run-start _ _ _)
 
-add-read-word : tie.Need-add-read-word Inv-loop μ-loop
-add-read-word c = omega arith
+add-decode : tie.Need-add-decode Inv-loop μ-loop
+add-decode c = omega arith
 
-read-word-requires : tie.Need-read-word-requires Inv-loop μ-loop
-read-word-requires c κs = omega arith
+mul-decode : tie.Need-mul-decode Inv-loop μ-loop
+mul-decode c = search needs
+
+shared-slice-read-decode : tie.Need-shared-slice-read-decode Inv-loop μ-loop
+shared-slice-read-decode c = omega arith
 
 decode-requires : tie.Need-decode-requires Inv-loop μ-loop
 decode-requires c κs = search needs
@@ -69,8 +71,9 @@ entries-spec =
     Inv-loop
     μ-loop
     loop-holds
-    add-read-word
-    read-word-requires
+    add-decode
+    mul-decode
+    shared-slice-read-decode
     decode-requires
     entry-requires
     returns

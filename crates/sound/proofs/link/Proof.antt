@@ -15,8 +15,8 @@ use Rattle.sound.proofs.link.Tie as tie
 claim-requires : tie.Need-claim-requires
 claim-requires c κs = search needs
 
-page-start-requires : tie.Need-page-start-requires
-page-start-requires c κs = claimed-lent _ _ _ (rw (c .if1 .taken) at (c .before .claim .ensures))
+page-at-requires : tie.Need-page-at-requires
+page-at-requires c κs = claimed-lent _ _ _ (rw (c .if1 .taken) at (c .before .claim .ensures))
 
 clean-requires : tie.Need-clean-requires
 clean-requires c κs = search needs
@@ -27,7 +27,7 @@ returns c = let p = c .before in
     let b = p .before in
     rw (← b .before .claim .ensures, b .if1 .taken)
     (ap (λ (r : Bool). answer r (b .before .claim .last .1 .1 .1 .0))
-    (c .clean .ensures ∙ every-cong _ _ (board .words) 0 (λ i l u. ap (entry.clean board) (word-at _ _ _ i _ (p .page-start .ensures .0)))))
+    (c .clean .ensures ∙ every-cong _ _ (board .words) 0 (λ i l u. ap (entry.clean board) (word-at _ _ _ i _ (p .page-at .ensures .0)))))
 
 returns-2 : tie.Need-returns-2
 unfolding linkStep
@@ -35,4 +35,4 @@ returns-2 c = rw (← c .before .claim .ensures, c .if1 .left)
 
 pub link-spec : {M : Type 1} → statement M
 link-spec =
-    tie.close (tie.spec claim-requires page-start-requires clean-requires returns returns-2)
+    tie.close (tie.spec claim-requires page-at-requires clean-requires returns returns-2)

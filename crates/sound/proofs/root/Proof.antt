@@ -20,8 +20,8 @@ claim-requires c κs = search needs
 block-count-requires : tie.Need-block-count-requires
 block-count-requires c κs = search needs
 
-page-start-requires : tie.Need-page-start-requires
-page-start-requires c κs = is-lent (c .before)
+page-at-requires : tie.Need-page-at-requires
+page-at-requires c κs = is-lent (c .before)
 
 entries-requires : tie.Need-entries-requires
 entries-requires c κs = search needs
@@ -36,7 +36,7 @@ returns c = let p = c .before .before in
     let k = t .before .claim .last .1 .1 .1 .0 in
     rw (← t .before .claim .ensures, t .if1 .taken)
     (c .entries .ensures
-    ∙ words-are-entries F (now (a .words)) (a .page .0) (p .page-start .result) (n .block-count .result) k (is-lent t) (p .page-start .ensures .0)
+    ∙ words-are-entries F (now (a .words)) (a .page .0) (p .page-at .result) (n .block-count .result) k (is-lent t) (p .page-at .ensures .0)
     ∙ ap (λ (i : ℕ). scanRun (blockStep F (now (a .words)) (a .page .0)) k i 0) (n .block-count .ensures .0))
 
 returns-2 : tie.Need-returns-2
@@ -49,7 +49,7 @@ root-spec =
     (tie.spec
     claim-requires
     block-count-requires
-    page-start-requires
+    page-at-requires
     entries-requires
     returns
     returns-2)

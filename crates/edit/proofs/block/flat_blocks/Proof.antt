@@ -43,16 +43,16 @@ narrow-requires c κs = search needs
 -- the row's stores are those of its blocks
 row-here : (w : tie.After-narrow) → let p = w .before .before .before in let a = p .before .before .before .args in
     rowStores (a .words .now) (λ x. w .narrow .result) (32 - a .b % 32) (p .page-at .result + a .b)
-    ≡ storesOver (frameOf (a .f) (a .words .now)) (a .words .now) (requestOf (a .q)) (a .root .0) (a .gib) (32 - a .b % 32) (a .b) (drop (a .next) (freeList (a .free)))
+    ≡ storesOver (frameOf (a .edit .f) (a .words .now)) (a .words .now) (requestOf (a .edit .q)) (a .edit .root .0) (a .gib) (32 - a .b % 32) (a .b) (drop (a .next) (freeList (a .free)))
 row-here w =
     let p = w .before .before .before in
     let s = p .before .before .before in
     let a = s .args in
     let m = a .words .now in
-    let F = frameOf (a .f) m in
+    let F = frameOf (a .edit .f) m in
     let n = 32 - a .b % 32 in
-    ap₂ (λ (x k : ℕ). rowStores m (λ y. x) n k) (w .narrow .ensures) (place F (a .root .0) (a .b) _ (p .page-at .ensures .0))
-    ∙ sym (row-stores F m (requestOf (a .q)) (a .root .0) (a .gib) (λ y. a .gib .p * TYPEUNIT) n (a .b) (drop (a .next) (freeList (a .free))) (λ x lo hi. flat-entry (a .f) m (requestOf (a .q)) (a .root .0) (a .gib) (s .pre .3) x))
+    ap₂ (λ (x k : ℕ). rowStores m (λ y. x) n k) (w .narrow .ensures) (place F (a .edit .root .0) (a .b) _ (p .page-at .ensures .0))
+    ∙ sym (row-stores F m (requestOf (a .edit .q)) (a .edit .root .0) (a .gib) (λ y. a .gib .p * TYPEUNIT) n (a .b) (drop (a .next) (freeList (a .free))) (λ x lo hi. flat-entry (a .edit .f) m (requestOf (a .edit .q)) (a .edit .root .0) (a .gib) (s .pre .3) x))
 
 -- src/block.rt:196:9
 flat-entries-requires : tie.Need-flat-entries-requires
@@ -74,12 +74,12 @@ returns c =
     let s = c .before .before .before .before .before .before .before .before .before .before in
     let a = s .args in
     let m = a .words .now in
-    let F = frameOf (a .f) m in
+    let F = frameOf (a .edit .f) m in
     let n = 32 - a .b % 32 in
     record {
       made =
           c .before .before .before .flat-entries .ensures ∙ ap (λ (ss : List Store). run (a .left) ss m) (row-here (c .before .before .before .before));
-      pages = omega (arith, row-pages F m (requestOf (a .q)) (a .root .0) (a .gib) (λ w. a .gib .p * TYPEUNIT) n (a .b) (λ x lo hi. flat-entry (a .f) m (requestOf (a .q)) (a .root .0) (a .gib) (s .pre .3) x));
+      pages = omega (arith, row-pages F m (requestOf (a .edit .q)) (a .edit .root .0) (a .gib) (λ w. a .gib .p * TYPEUNIT) n (a .b) (λ x lo hi. flat-entry (a .edit .f) m (requestOf (a .edit .q)) (a .edit .root .0) (a .gib) (s .pre .3) x));
       some = omega arith;
       within = omega arith;
     }

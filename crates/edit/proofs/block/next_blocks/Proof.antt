@@ -37,7 +37,7 @@ one-block-requires : tie.Need-one-block-requires
 one-block-requires c κs =
     let s = c .before .before .before .before .before in
     let a = s .args in
-    let next : Ahead (a .words .now) (storesOver (frameOf (a .f) (a .words .now)) (a .words .now) (requestOf (a .q)) (a .root .0) (a .gib) 1 (a .b) (drop (a .next) (freeList (a .free))))
+    let next : Ahead (a .words .now) (storesOver (frameOf (a .edit .f) (a .words .now)) (a .words .now) (requestOf (a .edit .q)) (a .edit .root .0) (a .gib) 1 (a .b) (drop (a .next) (freeList (a .free))))
     = ahead-over _ _ _ _ _ 1 (32 - a .b % 32) (a .b) _ (omega arith) (s .pre .6) in
     search needs
 

@@ -23,30 +23,30 @@ use Rattle.edit.proofs.block.one_block.Statement.{statement}
 use Rattle.edit.proofs.block.one_block.Tie as tie
 use Rattle.table.specs.Board.{board, WORDS, frameOf}
 
-good-here : (c : tie.After-entry-at) → let a = c .before .before .before .args in Good (frameOf (a .f) (a .words .now)) (a .words .now) (entryOf (c .entry-at .result))
+good-here : (c : tie.After-entry-at) → let a = c .before .before .before .args in Good (frameOf (a .edit .f) (a .words .now)) (a .words .now) (entryOf (c .entry-at .result))
 good-here c =
     let s = c .before .before .before in
-    subst (Good (frameOf (s .args .f) (s .args .words .now)) (s .args .words .now)) (sym (c .entry-at .ensures)) (s .pre .0 .good (s .args .b) (s .pre .1))
+    subst (Good (frameOf (s .args .edit .f) (s .args .words .now)) (s .args .words .now)) (sym (c .entry-at .ensures .0)) (s .pre .0 .good (s .args .b) (s .pre .1))
 
 form-here : (c : tie.After-block-form) → let a = c .before .before .before .before .before .args in
-    formOf (c .block-form .result) ≡ formAt (frameOf (a .f) (a .words .now)) (a .words .now) (requestOf (a .q)) (a .root .0) (a .gib) (a .b)
+    formOf (c .block-form .result) ≡ formAt (frameOf (a .edit .f) (a .words .now)) (a .words .now) (requestOf (a .edit .q)) (a .edit .root .0) (a .gib) (a .b)
 form-here c =
     let a = c .before .before .before .before .before .args in
     c .block-form .ensures
-    ∙ ap (λ (e : Entry). formIn (frameOf (a .f) (a .words .now)) (a .words .now) (requestOf (a .q)) (a .gib .one) (a .gib .p) e (a .b)) (c .before .before .entry-at .ensures)
+    ∙ ap (λ (e : Entry). formIn (frameOf (a .edit .f) (a .words .now)) (a .words .now) (requestOf (a .edit .q)) (a .gib .one) (a .gib .p) e (a .b)) (c .before .before .entry-at .ensures .0)
 
 -- the stores that the code makes are those of the block
 block-here : (p : tie.After-page-from) → let bf = p .before in let a = bf .before .before .before .before .before .args in
-    blockStores (frameOf (a .f) (a .words .now)) (a .words .now) (requestOf (a .q)) (a .root .0) (formOf (bf .block-form .result)) (entryOf (bf .before .before .entry-at .result)) (a .b) (p .page-from .result .0)
-    ≡ storesOver (frameOf (a .f) (a .words .now)) (a .words .now) (requestOf (a .q)) (a .root .0) (a .gib) 1 (a .b) (drop (a .next) (freeList (a .free)))
+    blockStores (frameOf (a .edit .f) (a .words .now)) (a .words .now) (requestOf (a .edit .q)) (a .edit .root .0) (formOf (bf .block-form .result)) (entryOf (bf .before .before .entry-at .result)) (a .b) (p .page-from .result .0)
+    ≡ storesOver (frameOf (a .edit .f) (a .words .now)) (a .words .now) (requestOf (a .edit .q)) (a .edit .root .0) (a .gib) 1 (a .b) (drop (a .next) (freeList (a .free)))
 block-here p =
     let bf = p .before in
     let ea = bf .before .before in
     let a = ea .before .before .before .args in
-    let F = frameOf (a .f) (a .words .now) in
-    ap₂ (λ (x : Form) (e : Entry). blockStores F (a .words .now) (requestOf (a .q)) (a .root .0) x e (a .b) (p .page-from .result .0)) (form-here bf) (ea .entry-at .ensures)
-    ∙ ap (storesAt F (a .words .now) (requestOf (a .q)) (a .root .0) (a .gib) (a .b)) (p .page-from .ensures)
-    ∙ sym (over-one F (a .words .now) (requestOf (a .q)) (a .root .0) (a .gib) (a .b) (drop (a .next) (freeList (a .free))))
+    let F = frameOf (a .edit .f) (a .words .now) in
+    ap₂ (λ (x : Form) (e : Entry). blockStores F (a .words .now) (requestOf (a .edit .q)) (a .edit .root .0) x e (a .b) (p .page-from .result .0)) (form-here bf) (ea .entry-at .ensures .0)
+    ∙ ap (storesAt F (a .words .now) (requestOf (a .edit .q)) (a .edit .root .0) (a .gib) (a .b)) (p .page-from .ensures)
+    ∙ sym (over-one F (a .words .now) (requestOf (a .edit .q)) (a .edit .root .0) (a .gib) (a .b) (drop (a .next) (freeList (a .free))))
 
 entry-at-requires : tie.Need-entry-at-requires
 entry-at-requires c κs = search needs
@@ -72,10 +72,10 @@ block-stores-requires c κs =
       s .pre .2,
       good-here ea,
       s .pre .0 .isLent,
-      λ z. let y = s .pre .5 (sym (ap₂ (λ (x : Form) (e : Entry). needsPage x e) (form-here bf) (ea .entry-at .ensures)) ∙ z) in
-          subst (λ (n : ℕ). (lent (frameOf (a .f) (a .words .now)) n ≡ true) × (n < 2 ^ board .infoBits)) (sym (c .before .before .page-from .ensures)) y,
+      λ z. let y = s .pre .5 (sym (ap₂ (λ (x : Form) (e : Entry). needsPage x e) (form-here bf) (ea .entry-at .ensures .0)) ∙ z) in
+          subst (λ (n : ℕ). (lent (frameOf (a .edit .f) (a .words .now)) n ≡ true) × (n < 2 ^ board .infoBits)) (sym (c .before .before .page-from .ensures)) y,
       subst Encodes (sym (bf .block-form .ensures))
-          (form-encodes (a .f .paw) (a .f .first .0) (length (a .words .now) / WORDS) (a .words .now) (requestOf (a .q)) (s .pre .2 .small) (entryOf (ea .entry-at .result)) (good-here ea) (a .gib .one) (a .gib .p) (a .b) (s .pre .3)),
+          (form-encodes (a .edit .f .paw) (a .edit .f .first .0) (length (a .words .now) / WORDS) (a .words .now) (requestOf (a .edit .q)) (s .pre .2 .small) (entryOf (ea .entry-at .result)) (good-here ea) (a .gib .one) (a .gib .p) (a .b) (s .pre .3)),
       ahead-of (sym (block-here (c .before .before))) (s .pre .6),
     )
 
@@ -88,14 +88,14 @@ returns c =
     let a = s .args in
     let bf = c .before .before .before .before .before .before .before in
     let ea = bf .before .before in
-    let F = frameOf (a .f) (a .words .now) in
+    let F = frameOf (a .edit .f) (a .words .now) in
     record {
       made =
           c .before .before .before .block-stores .ensures ∙ ap (λ (ss : List Store). run (a .left) ss (a .words .now)) (block-here (c .before .before .before .before .before .before));
       pages =
           c .before .before .before .before .before .next-page .ensures
-          ∙ ap₂ (λ (x : Form) (e : Entry). if needsPage x e then a .next + 1 else a .next) (form-here bf) (ea .entry-at .ensures)
-          ∙ sym (pages-one F (a .words .now) (requestOf (a .q)) (a .root .0) (a .gib) (a .b) (a .next));
+          ∙ ap₂ (λ (x : Form) (e : Entry). if needsPage x e then a .next + 1 else a .next) (form-here bf) (ea .entry-at .ensures .0)
+          ∙ sym (pages-one F (a .words .now) (requestOf (a .edit .q)) (a .edit .root .0) (a .gib) (a .b) (a .next));
       some = omega arith;
       within = omega arith;
     }

@@ -12,7 +12,7 @@ use Rattle.entries.proofs.Order.{ahead-of}
 use Rattle.entries.specs.Rows.{rowStores, piecesWord, PiecesAhead}
 use Rattle.entries.specs.Run.{run}
 use Rattle.entries.proofs.Places.{place}
-use Rattle.range.specs.Kinds.{Fair}
+use Rattle.types.specs.Range.{Fair}
 use Rattle.model.specs.Frame.{blocks, indexOf}
 use Rattle.model.specs.Stores.{Store}
 use Rattle.theory.specs.Rooted.{Rooted}
@@ -47,26 +47,26 @@ abbrev NoTable : (p : tie.After-page-at) → ℕ → Type 0
 NoTable p n = let a = p .before .before .before .args in (k : ℕ) → p .page-at .result + a .b ≤ k → k < p .page-at .result + a .b + n → piecesWord (getD (a .words .now) k 0) ≡ 0 → ⊥
 
 entries-here : (p : tie.After-page-at) (n : ℕ) → let a = p .before .before .before .args in
-    n ≤ a .n → NoTable p n → (x : ℕ) → a .b ≤ x → x < a .b + n → Entrywise (frameOf (a .f) (a .words .now)) (a .words .now) (requestOf (a .q)) (a .root .0) (a .gib) piecesWord x
+    n ≤ a .n → NoTable p n → (x : ℕ) → a .b ≤ x → x < a .b + n → Entrywise (frameOf (a .edit .f) (a .words .now)) (a .words .now) (requestOf (a .edit .q)) (a .edit .root .0) (a .gib) piecesWord x
 entries-here p n few some x lo hi =
     let s = p .before .before .before in
     let a = s .args in
     let m = a .words .now in
-    let F = frameOf (a .f) m in
-    let k : p .page-at .result + x ≡ indexOf F (a .root .0) x = place F (a .root .0) x _ (p .page-at .ensures .0) in
-    pieces-entry (a .f) m (requestOf (a .q)) (a .root .0) (a .gib) (s .pre .2 .small) (s .pre .6) (s .pre .0 .isLent) x (s .pre .0 .good x (omega (arith, s .pre .1)))
+    let F = frameOf (a .edit .f) m in
+    let k : p .page-at .result + x ≡ indexOf F (a .edit .root .0) x = place F (a .edit .root .0) x _ (p .page-at .ensures .0) in
+    pieces-entry (a .edit .f) m (requestOf (a .edit .q)) (a .edit .root .0) (a .gib) (s .pre .2 .small) (s .pre .6) (s .pre .0 .isLent) x (s .pre .0 .good x (omega (arith, s .pre .1)))
     (λ y l u. s .pre .9 y (omega arith) (omega arith))
     (subst (λ (y : ℕ). piecesWord (getD m y 0) ≡ 0 → ⊥) k (some _ (omega arith) (omega arith)))
 
 row-here : (p : tie.After-page-at) (n : ℕ) → let a = p .before .before .before .args in n ≤ a .n → NoTable p n
     → rowStores (a .words .now) piecesWord n (p .page-at .result + a .b)
-    ≡ storesOver (frameOf (a .f) (a .words .now)) (a .words .now) (requestOf (a .q)) (a .root .0) (a .gib) n (a .b) (drop (a .next) (freeList (a .free)))
+    ≡ storesOver (frameOf (a .edit .f) (a .words .now)) (a .words .now) (requestOf (a .edit .q)) (a .edit .root .0) (a .gib) n (a .b) (drop (a .next) (freeList (a .free)))
 row-here p n few some =
     let a = p .before .before .before .args in
     let m = a .words .now in
-    let F = frameOf (a .f) m in
-    ap (rowStores m piecesWord n) (place F (a .root .0) (a .b) _ (p .page-at .ensures .0))
-    ∙ sym (row-stores F m (requestOf (a .q)) (a .root .0) (a .gib) piecesWord n (a .b) (drop (a .next) (freeList (a .free))) (entries-here p n few some))
+    let F = frameOf (a .edit .f) m in
+    ap (rowStores m piecesWord n) (place F (a .edit .root .0) (a .b) _ (p .page-at .ensures .0))
+    ∙ sym (row-stores F m (requestOf (a .edit .q)) (a .edit .root .0) (a .gib) piecesWord n (a .b) (drop (a .next) (freeList (a .free))) (entries-here p n few some))
 
 -- src/block.rt:226:9
 pieces-row-requires : tie.Need-pieces-row-requires
@@ -75,9 +75,9 @@ pieces-row-requires c κs =
     let s = p .before .before .before in
     let a = s .args in
     let m = a .words .now in
-    let F = frameOf (a .f) m in
+    let F = frameOf (a .edit .f) m in
     let next : PiecesAhead m (a .n) (p .page-at .result + a .b)
-    = λ k few some. ahead-of (sym (row-here p k few some)) (ahead-over F m (requestOf (a .q)) (a .root .0) (a .gib) k (32 - a .b % 32) (a .b) (drop (a .next) (freeList (a .free))) (omega (arith, s .pre .8)) (s .pre .10)) in
+    = λ k few some. ahead-of (sym (row-here p k few some)) (ahead-over F m (requestOf (a .edit .q)) (a .edit .root .0) (a .gib) k (32 - a .b % 32) (a .b) (drop (a .next) (freeList (a .free))) (omega (arith, s .pre .8)) (s .pre .10)) in
     search needs
 
 -- src/block.rt:228:9
@@ -87,9 +87,9 @@ one-block-requires c κs =
     let s = t .before .before .before .before .before .before .before .before .before in
     let a = s .args in
     subst
-    (λ (x : List ℕ). Rooted (frameOf (a .f) x) x (a .root .0) × (a .b < blocks (frameOf (a .f) x)) × Fair (a .q) × (a .gib .p < 4) × (a .next < 2 ^ 32)
-    × Fresh (frameOf (a .f) x) x (requestOf (a .q)) (a .root .0) (a .gib) (a .b) (headD (drop (a .next) (freeList (a .free))) 0)
-    × Ahead x (storesOver (frameOf (a .f) x) x (requestOf (a .q)) (a .root .0) (a .gib) 1 (a .b) (drop (a .next) (freeList (a .free)))))
+    (λ (x : List ℕ). Rooted (frameOf (a .edit .f) x) x (a .edit .root .0) × (a .b < blocks (frameOf (a .edit .f) x)) × Fair (a .edit .q) × (a .gib .p < 4) × (a .next < 2 ^ 32)
+    × Fresh (frameOf (a .edit .f) x) x (requestOf (a .edit .q)) (a .edit .root .0) (a .gib) (a .b) (headD (drop (a .next) (freeList (a .free))) 0)
+    × Ahead x (storesOver (frameOf (a .edit .f) x) x (requestOf (a .edit .q)) (a .edit .root .0) (a .gib) 1 (a .b) (drop (a .next) (freeList (a .free)))))
     (sym (nothing t)) (s .pre .0, omega (arith, s .pre .1, s .pre .7), s .pre .2, s .pre .3, s .pre .4, s .pre .5, ahead-over _ _ _ _ _ 1 (32 - a .b % 32) (a .b) _ (omega arith) (s .pre .10))
 
 -- src/block.rt:228:9
@@ -101,7 +101,7 @@ returns : tie.Need-returns
 returns c =
     let t = c .before .before .before .before in
     let a = t .before .before .before .before .before .before .before .before .before .args in
-    subst (λ (x : List ℕ). Did (frameOf (a .f) x) x (requestOf (a .q)) (a .root .0) (a .gib) (a .b) (freeList (a .free)) (a .next) (a .left) (c .before .before .one-block .result) (c .before .before .one-block .last .1 .0))
+    subst (λ (x : List ℕ). Did (frameOf (a .edit .f) x) x (requestOf (a .edit .q)) (a .edit .root .0) (a .gib) (a .b) (freeList (a .free)) (a .next) (a .left) (c .before .before .one-block .result) (c .before .before .one-block .last .1 .0))
     (nothing t) (c .before .before .one-block .ensures)
 
 -- src/block.rt:208:1
@@ -114,13 +114,13 @@ returns-2 c =
     let s = c .before .before .before .before .before .before .before .before .before .before in
     let a = s .args in
     let m = a .words .now in
-    let F = frameOf (a .f) m in
+    let F = frameOf (a .edit .f) m in
     let r = c .before .before .before .before .before .pieces-row in
     let n = r .result .count in
     let p = c .before .before .before .before .before .before .before in
     record {
       made = r .ensures .2 ∙ ap (λ (ss : List Store). run (a .left) ss m) (row-here p n (r .ensures .0) (r .ensures .1));
-      pages = omega (arith, row-pages F m (requestOf (a .q)) (a .root .0) (a .gib) piecesWord n (a .b) (entries-here p n (r .ensures .0) (r .ensures .1)));
+      pages = omega (arith, row-pages F m (requestOf (a .edit .q)) (a .edit .root .0) (a .gib) piecesWord n (a .b) (entries-here p n (r .ensures .0) (r .ensures .1)));
       some = omega (arith, c .before .if1 .left);
       within = omega (arith, s .pre .8, r .ensures .0);
     }

@@ -53,30 +53,30 @@ same-length-2 c = search needs
 
 -- the word is that of every entry of the run
 word-of : (c : tie.After-old-word) → let s = c .before .before .before .before .before in let a = s .args in
-    (k : ℕ) → a .from ≤ k → k < a .to → c .old-word .result ≡ l1Word (frameOf (a .f) (a .words .now)) (a .words .now) (requestOf (a .q)) (entryOf (a .e)) (a .b) k
+    (k : ℕ) → a .from ≤ k → k < a .to → c .old-word .result ≡ l1Word (frameOf (a .edit .f) (a .words .now)) (a .words .now) (requestOf (a .edit .q)) (entryOf (a .e)) (a .b) k
 word-of c k lo hi =
     let s = c .before .before .before .before .before in
     let a = s .args in
     let m = a .words .now in
-    let same : c .old-word .result ≡ oldWord (frameOf (a .f) m) m (entryOf (a .e)) k = c .old-word .ensures .0 ∙ sym (s .pre .8 k lo hi) in
+    let same : c .old-word .result ≡ oldWord (frameOf (a .edit .f) m) m (entryOf (a .e)) k = c .old-word .ensures ∙ sym (s .pre .8 k lo hi) in
     same
-    ∙ word-outside (a .f .paw) (a .f .first .0) (length m / WORDS) m (requestOf (a .q)) (s .pre .3 .small) (entryOf (a .e)) (s .pre .4) (a .b) k (omega (arith, s .pre .1))
-    (subst (λ (w : ℕ). w < ENTRY) same (c .old-word .ensures .1))
+    ∙ word-outside (a .edit .f .paw) (a .edit .f .first .0) (length m / WORDS) m (requestOf (a .edit .q)) (s .pre .3 .small) (entryOf (a .e)) (s .pre .4) (a .b) k (omega (arith, s .pre .1))
+    (subst (λ (w : ℕ). w < ENTRY) same (omega arith))
     (λ j l h. s .pre .7 j (omega arith) (omega arith))
 
 -- so a fill makes the stores of the run
 same-stores : (p : tie.After-page-at) → let w = p .before .before in let s = w .before .before .before .before .before .before in let a = s .args in
-    fillStores (w .narrow .result) (a .to - a .from) (p .page-at .result + a .from) ≡ newRun (frameOf (a .f) (a .words .now)) (a .words .now) (requestOf (a .q)) (entryOf (a .e)) (a .b) (a .new .0) (a .to - a .from) (a .from)
+    fillStores (w .narrow .result) (a .to - a .from) (p .page-at .result + a .from) ≡ newRun (frameOf (a .edit .f) (a .words .now)) (a .words .now) (requestOf (a .edit .q)) (entryOf (a .e)) (a .b) (a .new .0) (a .to - a .from) (a .from)
 same-stores p =
     let w = p .before .before in
     let o = w .before in
     let s = o .before .before .before .before .before in
     let a = s .args in
     let m = a .words .now in
-    let F = frameOf (a .f) m in
+    let F = frameOf (a .edit .f) m in
     let n = a .to - a .from in
     ap (fillStores (w .narrow .result) n) (place F (a .new .0) (a .from) (p .page-at .result) (p .page-at .ensures .0))
-    ∙ fill-run F m (requestOf (a .q)) (entryOf (a .e)) (a .b) (a .new .0) (w .narrow .result) n (a .from) (λ k lo hi. w .narrow .ensures ∙ word-of o k lo (omega (arith, s .pre .2)))
+    ∙ fill-run F m (requestOf (a .edit .q)) (entryOf (a .e)) (a .b) (a .new .0) (w .narrow .result) n (a .from) (λ k lo hi. w .narrow .ensures ∙ word-of o k lo (omega (arith, s .pre .2)))
 
 fill-requires : tie.Need-fill-requires
 fill-requires c κs =

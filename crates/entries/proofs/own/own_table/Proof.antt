@@ -30,7 +30,7 @@ returns : tie.Need-returns
 returns c =
     let s = c .before .before .before .before in
     let a = s .args in
-    own-none (a .f) (a .words .now) (requestOf (a .q)) (s .pre .1 .small) (a .t .0) (a .b) (s .pre .2) (rw (c .enum-told .given .1) at (c .before .before .lies .ensures))
+    own-none (a .edit .f) (a .words .now) (requestOf (a .edit .q)) (s .pre .1 .small) (a .t .0) (a .b) (s .pre .2) (rw (c .enum-told .given .1) at (c .before .before .lies .ensures))
     (λ j. omega (arith, c .before .before .before .slice-known .given j)) (a .left)
 
 same-length : tie.Need-same-length

@@ -21,7 +21,7 @@ put-changed-requires : tie.Need-put-changed-requires
 put-changed-requires c κs =
     let s = c .before .before .before .before .before .before .before in
     let a = s .args in
-    (search needs, next-if (frameOf (a .f) (a .words .now)) (a .t .0) (a .i) _ (c .before .before .before .before .page-at .ensures .0) (a .words .now) (c .before .narrow .ensures ∙ c .before .before .after-word .ensures .0) (s .pre .4))
+    (search needs, next-if (frameOf (a .edit .f) (a .words .now)) (a .t .0) (a .i) _ (c .before .before .before .before .page-at .ensures .0) (a .words .now) (c .before .narrow .ensures ∙ c .before .before .after-word .ensures) (s .pre .4))
 
 same-length : tie.Need-same-length
 same-length c = search needs
@@ -29,7 +29,7 @@ same-length c = search needs
 returns : tie.Need-returns
 returns c =
     let a = c .before .before .before .before .before .before .before .before .before .before .args in
-    stored-if (frameOf (a .f) (a .words .now)) (a .t .0) (a .i) _ (c .before .before .before .before .before .before .before .page-at .ensures .0) (a .left) (a .words .now) (c .before .before .before .before .narrow .ensures ∙ c .before .before .before .before .before .after-word .ensures .0) (c .before .before .put-changed .ensures)
+    stored-if (frameOf (a .edit .f) (a .words .now)) (a .t .0) (a .i) _ (c .before .before .before .before .before .before .before .page-at .ensures .0) (a .left) (a .words .now) (c .before .before .before .before .narrow .ensures ∙ c .before .before .before .before .before .after-word .ensures) (c .before .before .put-changed .ensures)
 
 pub same-entry-spec : {M : Type 1} → statement M
 same-entry-spec =

@@ -13,10 +13,10 @@ use Rattle.entries.proofs.own.same_table.Statement.{statement}
 use Rattle.entries.proofs.own.same_table.Tie as tie
 
 abbrev Inv-loop : tie.InvT-loop
-Inv-loop f words₀ q t b from to more₀ i₀ words more i = Same f (requestOf q) (t .0) b words₀ more₀ words more i
+Inv-loop edit words₀ t b from to more₀ i₀ words more i = Same (edit .f) (requestOf (edit .q)) (t .0) b words₀ more₀ words more i
 
 abbrev μ-loop : tie.MeasureT-loop
-μ-loop f words₀ q t b from to more₀ i₀ words more i = to - i
+μ-loop edit words₀ t b from to more₀ i₀ words more i = to - i
 
 first-entry-requires : tie.Need-first-entry-requires Inv-loop μ-loop
 first-entry-requires c κs = search needs
@@ -37,7 +37,7 @@ same-entry-requires c κs =
       s .pre .0,
       omega (arith, l .before .past-entry .ensures .0),
       s .pre .1,
-      subst (λ (X : Frame). Good X (l .loop .words) (table (s .args .t .0))) (sym (frame-same (s .args .f) (l .loop .words) (s .args .words .now) (l .loop .inv .size))) (l .loop .inv .good),
+      subst (λ (X : Frame). Good X (l .loop .words) (table (s .args .t .0))) (sym (frame-same (s .args .edit .f) (l .loop .words) (s .args .words .now) (l .loop .inv .size))) (l .loop .inv .good),
       same-ahead _ _ _ _ _ _ (s .pre .1 .small) (l .loop .words) (l .loop .more) (l .loop .i) (l .loop .inv) (omega (arith, l .before .past-entry .ensures .0, c .before .loop-test .taken)),
     )
 

@@ -19,7 +19,7 @@ even-form-requires c κs =
     let a = s .args in
     let p = c .before .e .given .0 .0 in
     let h : p < 4 = rw (c .before .e .given .1) at (s .pre .2) in
-    (s .pre .0, s .pre .1, h, omega arith, even-flat (frameOf (a .f) (a .words .now)) (a .words .now) p (a .b) h)
+    (s .pre .0, s .pre .1, h, omega arith, even-flat (frameOf (a .edit .f) (a .words .now)) (a .words .now) p (a .b) h)
 
 enum-known-e-2 : tie.Need-enum-known-e-2
 enum-known-e-2 c = search needs
@@ -28,7 +28,7 @@ even-form-requires-2 : tie.Need-even-form-requires-2
 even-form-requires-2 c κs =
     let s = c .before .before .before .before in
     let a = s .args in
-    (s .pre .0, s .pre .1, tt, omega arith, even-pieces (a .f .paw) (a .f .first .0) (length (a .words .now) / WORDS) (a .words .now) (c .before .e2 .given .0 .0) (a .b))
+    (s .pre .0, s .pre .1, tt, omega arith, even-pieces (a .edit .f .paw) (a .edit .f .first .0) (length (a .words .now) / WORDS) (a .words .now) (c .before .e2 .given .0 .0) (a .b))
 
 enum-told : tie.Need-enum-told
 enum-told c = search needs

@@ -14,7 +14,7 @@ use Rattle.forms.proofs.blocks.block_form.Tie as tie
 returns : tie.Need-returns
 returns c =
     let a = c .before .before .args in
-    rw (c .if1 .taken) (form-flat (frameOf (a .f) (a .words .now)) board-shape (a .words .now) (requestOf (a .q)) (entryOf (a .e)) (a .b) (a .p))
+    rw (c .if1 .taken) (form-flat (frameOf (a .edit .f) (a .words .now)) board-shape (a .words .now) (requestOf (a .edit .q)) (entryOf (a .e)) (a .b) (a .p))
 
 mul-lies : tie.Need-mul-lies
 mul-lies c = omega arith
@@ -25,8 +25,8 @@ lies-requires c κs = search needs
 enum-told : tie.Need-enum-told
 enum-told c = search needs
 
-mul-t12 : tie.Need-mul-t12
-mul-t12 c = let s = c .before .before .before .before .before .before in record { fits = omega (arith, s .pre .1 .small) }
+mul-info : tie.Need-mul-info
+mul-info c = let s = c .before .before .before .before .before .before in record { fits = omega (arith, s .pre .1 .small) }
 
 enum-told-2 : tie.Need-enum-told-2
 enum-told-2 c = search needs
@@ -47,21 +47,21 @@ unfolding pack
 returns-2 c =
     let s = c .before .before .before .before .before .before in
     let a = s .args in
-    form-inside (frameOf (a .f) (a .words .now)) board-shape (a .words .now) (requestOf (a .q)) (s .pre .1 .small) (entryOf (a .e)) (s .pre .2) (a .b)
+    form-inside (frameOf (a .edit .f) (a .words .now)) board-shape (a .words .now) (requestOf (a .edit .q)) (s .pre .1 .small) (entryOf (a .e)) (s .pre .2) (a .b)
     (rw (c .before .enum-told .given .1) at (c .before .before .before .lies .ensures))
-    ∙ rw (c .before .before .before .before .if1 .left) (form-not (frameOf (a .f) (a .words .now)) board-shape (a .words .now) (requestOf (a .q)) (entryOf (a .e)) (a .b) (a .p))
+    ∙ rw (c .before .before .before .before .if1 .left) (form-not (frameOf (a .edit .f) (a .words .now)) board-shape (a .words .now) (requestOf (a .edit .q)) (entryOf (a .e)) (a .b) (a .p))
 
 returns-3 : tie.Need-returns-3
 returns-3 c =
     let a = c .before .before .before .before .before .before .args in
     c .outside-form .ensures
-    ∙ rw (c .before .before .before .before .if1 .left) (form-not (frameOf (a .f) (a .words .now)) board-shape (a .words .now) (requestOf (a .q)) (entryOf (a .e)) (a .b) (a .p))
+    ∙ rw (c .before .before .before .before .if1 .left) (form-not (frameOf (a .edit .f) (a .words .now)) board-shape (a .words .now) (requestOf (a .edit .q)) (entryOf (a .e)) (a .b) (a .p))
 
 returns-4 : tie.Need-returns-4
 returns-4 c =
     let a = c .before .before .before .before .before .before .args in
     c .across-form .ensures
-    ∙ rw (c .before .before .before .before .if1 .left) (form-not (frameOf (a .f) (a .words .now)) board-shape (a .words .now) (requestOf (a .q)) (entryOf (a .e)) (a .b) (a .p))
+    ∙ rw (c .before .before .before .before .if1 .left) (form-not (frameOf (a .edit .f) (a .words .now)) board-shape (a .words .now) (requestOf (a .edit .q)) (entryOf (a .e)) (a .b) (a .p))
 
 pub block-form-spec : {M : Type 1} → statement M
 block-form-spec =
@@ -71,7 +71,7 @@ block-form-spec =
     mul-lies
     lies-requires
     enum-told
-    mul-t12
+    mul-info
     enum-told-2
     outside-form-requires
     enum-told-3

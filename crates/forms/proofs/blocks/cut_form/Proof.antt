@@ -23,8 +23,8 @@ piece-is-one-requires c κs = search needs
 returns : tie.Need-returns
 returns c = let s = c .before .before .before .before in
     let a = s .args in
-    form-table (a .f .paw) (a .f .first .0) (length (a .words .now) / WORDS) (a .words .now) (requestOf (a .q)) (entryOf (a .e)) (a .b)
-    (every-fail (isOne (frameOf (a .f) (a .words .now)) (a .words .now) (requestOf (a .q)) (entryOf (a .e)) (a .b)) PIECES (a .q .start .0 / PIECEBYTES % PIECES) (omega arith)
+    form-table (a .edit .f .paw) (a .edit .f .first .0) (length (a .words .now) / WORDS) (a .words .now) (requestOf (a .edit .q)) (entryOf (a .e)) (a .b)
+    (every-fail (isOne (frameOf (a .edit .f) (a .words .now)) (a .words .now) (requestOf (a .edit .q)) (entryOf (a .e)) (a .b)) PIECES (a .edit .q .start .0 / PIECEBYTES % PIECES) (omega arith)
     (sym (c .before .piece-is-one .ensures) ∙ not-true _ (c .if1 .taken)))
 
 -- src/blocks.rt:57:42
@@ -39,8 +39,8 @@ piece-is-one-requires-2 c κs = search needs
 returns-2 : tie.Need-returns-2
 returns-2 c = let s = c .before .before .before .before .before .before .before in
     let a = s .args in
-    form-table (a .f .paw) (a .f .first .0) (length (a .words .now) / WORDS) (a .words .now) (requestOf (a .q)) (entryOf (a .e)) (a .b)
-    (every-fail (isOne (frameOf (a .f) (a .words .now)) (a .words .now) (requestOf (a .q)) (entryOf (a .e)) (a .b)) PIECES ((a .q .start .0 + a .q .size) / PIECEBYTES % PIECES) (omega arith)
+    form-table (a .edit .f .paw) (a .edit .f .first .0) (length (a .words .now) / WORDS) (a .words .now) (requestOf (a .edit .q)) (entryOf (a .e)) (a .b)
+    (every-fail (isOne (frameOf (a .edit .f) (a .words .now)) (a .words .now) (requestOf (a .edit .q)) (entryOf (a .e)) (a .b)) PIECES ((a .edit .q .start .0 + a .edit .q .size) / PIECEBYTES % PIECES) (omega arith)
     (sym (c .before .piece-is-one2 .ensures) ∙ not-true _ (c .if2 .taken)))
 
 -- src/blocks.rt:60:5

@@ -12,8 +12,8 @@ use Rattle.forms.proofs.blocks.outside_form.Tie as tie
 enum-known-e : tie.Need-enum-known-e
 enum-known-e c = search needs
 
-mul-t9 : tie.Need-mul-t9
-mul-t9 c = let h : c .before .e .given .0 .0 < 4 = rw (c .before .e .given .1) at (c .before .before .before .before .pre .2) in record { fits = omega arith }
+mul-info : tie.Need-mul-info
+mul-info c = let h : c .before .e .given .0 .0 < 4 = rw (c .before .e .given .1) at (c .before .before .before .before .pre .2) in record { fits = omega arith }
 
 enum-known-e-2 : tie.Need-enum-known-e-2
 enum-known-e-2 c = search needs
@@ -37,13 +37,13 @@ returns : tie.Need-returns
 returns c =
     let s = c .before .before .before .before in
     let a = s .args in
-    form-flat-out (a .f .paw) (a .f .first .0) (length (a .words .now) / WORDS) (a .words .now) (requestOf (a .q)) (s .pre .1 .small) (entryOf (a .e)) (s .pre .2) (a .b) (s .pre .3) (c .before .e .given .0 .0) (ap entryOf (c .before .e .given .1))
+    form-flat-out (a .edit .f .paw) (a .edit .f .first .0) (length (a .words .now) / WORDS) (a .words .now) (requestOf (a .edit .q)) (s .pre .1 .small) (entryOf (a .e)) (s .pre .2) (a .b) (s .pre .3) (c .before .e .given .0 .0) (ap entryOf (c .before .e .given .1))
 
 returns-2 : tie.Need-returns-2
 returns-2 c =
     let s = c .before .before .before .before .before in
     let a = s .args in
-    form-pieces-out (a .f .paw) (a .f .first .0) (length (a .words .now) / WORDS) (a .words .now) (requestOf (a .q)) (s .pre .1 .small) (entryOf (a .e)) (s .pre .2) (a .b) (s .pre .3) (c .before .before .e2 .given .0 .0) (ap entryOf (c .before .before .e2 .given .1)) (c .if1 .taken)
+    form-pieces-out (a .edit .f .paw) (a .edit .f .first .0) (length (a .words .now) / WORDS) (a .words .now) (requestOf (a .edit .q)) (s .pre .1 .small) (entryOf (a .e)) (s .pre .2) (a .b) (s .pre .3) (c .before .before .e2 .given .0 .0) (ap entryOf (c .before .before .e2 .given .1)) (c .if1 .taken)
 
 returns-3 : tie.Need-returns-3
 returns-3 c = rw (c .before .before .before .e2 .given .1) (c .pieces-form .ensures)
@@ -59,7 +59,7 @@ outside-form-spec =
     tie.close
     (tie.spec
     enum-known-e
-    mul-t9
+    mul-info
     enum-known-e-2
     pieces-form-requires
     enum-told

@@ -18,7 +18,7 @@ piece-at-requires c κs = search needs
 returns : tie.Need-returns
 returns c = let a = c .before .before .args in
     c .piece-at .ensures .1
-    ∙ ap (λ (p : ℕ). allAre (frameOf (a .f) (a .words .now)) (a .words .now) (requestOf (a .q)) (entryOf (a .e)) p PIECE (a .b * 8192 + a .i * PIECE)) (c .piece-at .ensures .0)
+    ∙ ap (λ (p : ℕ). allAre (frameOf (a .edit .f) (a .words .now)) (a .words .now) (requestOf (a .edit .q)) (entryOf (a .e)) p PIECE (a .b * 8192 + a .i * PIECE)) (c .piece-at .ensures .0)
 
 pub piece-is-one-spec : {M : Type 1} → statement M
 piece-is-one-spec = tie.close (tie.spec piece-at-requires returns)

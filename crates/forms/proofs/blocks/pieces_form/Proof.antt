@@ -17,29 +17,29 @@ use Rattle.forms.proofs.blocks.pieces_form.Statement.{statement}
 use Rattle.forms.proofs.blocks.pieces_form.Tie as tie
 
 abbrev Inv-loop : tie.InvT-loop
-Inv-loop f words q e b info₀ j₀ info j =
+Inv-loop edit words e b info₀ j₀ info j =
     (j ≤ PIECES)
-    × (info ≡ pack 4 (firstOf (frameOf f words) words (requestOf q) (entryOf e) b) j (PIECES - j))
-    × (every (isOne (frameOf f words) words (requestOf q) (entryOf e) b) j (PIECES - j) ≡ true)
+    × (info ≡ pack 4 (firstOf (frameOf (edit .f) words) words (requestOf (edit .q)) (entryOf e) b) j (PIECES - j))
+    × (every (isOne (frameOf (edit .f) words) words (requestOf (edit .q)) (entryOf e) b) j (PIECES - j) ≡ true)
 
 abbrev μ-loop : tie.MeasureT-loop
-μ-loop f words q e b info₀ j₀ info j = PIECES - j
+μ-loop edit words e b info₀ j₀ info j = PIECES - j
 
 -- whether the turn's piece is of one permission
 turn-one : (c : tie.After-piece-at Inv-loop μ-loop) → let l = c .before .before in let a = l .before .before .args in
-    c .piece-at .result .one ≡ isOne (frameOf (a .f) (a .words .now)) (a .words .now) (requestOf (a .q)) (entryOf (a .e)) (a .b) ((PIECES - 1) - l .loop .j)
+    c .piece-at .result .one ≡ isOne (frameOf (a .edit .f) (a .words .now)) (a .words .now) (requestOf (a .edit .q)) (entryOf (a .e)) (a .b) ((PIECES - 1) - l .loop .j)
 turn-one c =
     let l = c .before .before in
     let a = l .before .before .args in
     c .piece-at .ensures .1
-    ∙ ap (λ (p : ℕ). allAre (frameOf (a .f) (a .words .now)) (a .words .now) (requestOf (a .q)) (entryOf (a .e)) p PIECE (a .b * 8192 + ((PIECES - 1) - l .loop .j) * PIECE)) (c .piece-at .ensures .0)
+    ∙ ap (λ (p : ℕ). allAre (frameOf (a .edit .f) (a .words .now)) (a .words .now) (requestOf (a .edit .q)) (entryOf (a .e)) p PIECE (a .b * 8192 + ((PIECES - 1) - l .loop .j) * PIECE)) (c .piece-at .ensures .0)
 
 turn-info : (c : tie.Else1 Inv-loop μ-loop) → let l = c .before .before .before .before in let a = l .before .before .args in
-    c .before .before .piece-at .result .p + 4 * l .loop .info ≡ pack 4 (firstOf (frameOf (a .f) (a .words .now)) (a .words .now) (requestOf (a .q)) (entryOf (a .e)) (a .b)) (l .loop .j + 1) (PIECES - (l .loop .j + 1))
+    c .before .before .piece-at .result .p + 4 * l .loop .info ≡ pack 4 (firstOf (frameOf (a .edit .f) (a .words .now)) (a .words .now) (requestOf (a .edit .q)) (entryOf (a .e)) (a .b)) (l .loop .j + 1) (PIECES - (l .loop .j + 1))
 turn-info c =
     let l = c .before .before .before .before in
     let a = l .before .before .args in
-    horner 4 (firstOf (frameOf (a .f) (a .words .now)) (a .words .now) (requestOf (a .q)) (entryOf (a .e)) (a .b)) PIECES 0 (l .loop .j) (l .loop .info) (c .before .before .piece-at .result .p) (omega arith) (l .loop .inv .1) (c .before .before .piece-at .ensures .0 ∙ ap (firstOf (frameOf (a .f) (a .words .now)) (a .words .now) (requestOf (a .q)) (entryOf (a .e)) (a .b)) (sym (zero-add ((PIECES - 1) - l .loop .j))))
+    horner 4 (firstOf (frameOf (a .edit .f) (a .words .now)) (a .words .now) (requestOf (a .edit .q)) (entryOf (a .e)) (a .b)) PIECES 0 (l .loop .j) (l .loop .info) (c .before .before .piece-at .result .p) (omega arith) (l .loop .inv .1) (c .before .before .piece-at .ensures .0 ∙ ap (firstOf (frameOf (a .edit .f) (a .words .now)) (a .words .now) (requestOf (a .edit .q)) (entryOf (a .e)) (a .b)) (sym (zero-add ((PIECES - 1) - l .loop .j))))
 
 turn-fits : (c : tie.Else1 Inv-loop μ-loop) → c .before .before .piece-at .result .p + 4 * c .before .before .before .before .loop .info < INFO
 turn-fits c =
@@ -47,8 +47,8 @@ turn-fits c =
     let a = l .before .before .args in
     let pre = l .before .before .pre in
     subst (λ (k : ℕ). k < INFO) (sym (turn-info c))
-    (pack4-fits (firstOf (frameOf (a .f) (a .words .now)) (a .words .now) (requestOf (a .q)) (entryOf (a .e)) (a .b))
-    (λ k. after-small (a .f .paw) (a .f .first .0) (length (a .words .now) / WORDS) (a .words .now) (requestOf (a .q)) (pre .1 .small) (entryOf (a .e)) (pre .2) (a .b * 8192 + k * PIECE))
+    (pack4-fits (firstOf (frameOf (a .edit .f) (a .words .now)) (a .words .now) (requestOf (a .edit .q)) (entryOf (a .e)) (a .b))
+    (λ k. after-small (a .edit .f .paw) (a .edit .f .first .0) (length (a .words .now) / WORDS) (a .words .now) (requestOf (a .edit .q)) (pre .1 .small) (entryOf (a .e)) (pre .2) (a .b * 8192 + k * PIECE))
     (l .loop .j + 1) (PIECES - (l .loop .j + 1)) (omega arith))
 
 loop-holds : tie.Need-loop-holds Inv-loop μ-loop
@@ -65,8 +65,8 @@ returns : tie.Need-returns Inv-loop μ-loop
 returns c =
     let l = c .before .before .before .before in
     let a = l .before .before .args in
-    form-table (a .f .paw) (a .f .first .0) (length (a .words .now) / WORDS) (a .words .now) (requestOf (a .q)) (entryOf (a .e)) (a .b)
-    (every-fail (isOne (frameOf (a .f) (a .words .now)) (a .words .now) (requestOf (a .q)) (entryOf (a .e)) (a .b)) PIECES ((PIECES - 1) - l .loop .j) (omega arith)
+    form-table (a .edit .f .paw) (a .edit .f .first .0) (length (a .words .now) / WORDS) (a .words .now) (requestOf (a .edit .q)) (entryOf (a .e)) (a .b)
+    (every-fail (isOne (frameOf (a .edit .f) (a .words .now)) (a .words .now) (requestOf (a .edit .q)) (entryOf (a .e)) (a .b)) PIECES ((PIECES - 1) - l .loop .j) (omega arith)
     (sym (turn-one (c .before .before)) ∙ not-true _ (c .if1 .taken)))
 
 mul-info : tie.Need-mul-info Inv-loop μ-loop
@@ -87,7 +87,7 @@ loop-again c =
     let a = l .before .before .args in (
       omega arith,
       turn-info (c .before),
-      every-down (isOne (frameOf (a .f) (a .words .now)) (a .words .now) (requestOf (a .q)) (entryOf (a .e)) (a .b)) PIECES (l .loop .j) (omega arith) (l .loop .inv .2)
+      every-down (isOne (frameOf (a .edit .f) (a .words .now)) (a .words .now) (requestOf (a .edit .q)) (entryOf (a .e)) (a .b)) PIECES (l .loop .j) (omega arith) (l .loop .inv .2)
           (sym (turn-one (c .before .before .before)) ∙ not-false _ (c .before .if1 .left)),
     )
 
@@ -96,10 +96,10 @@ returns-2 c =
     let l = c .before in
     let a = l .before .before .args in
     let z : l .loop .j ≡ PIECES = omega arith in
-    let g : ℕ → ℕ = firstOf (frameOf (a .f) (a .words .now)) (a .words .now) (requestOf (a .q)) (entryOf (a .e)) (a .b) in
-    let t : ℕ → Bool = isOne (frameOf (a .f) (a .words .now)) (a .words .now) (requestOf (a .q)) (entryOf (a .e)) (a .b) in
+    let g : ℕ → ℕ = firstOf (frameOf (a .edit .f) (a .words .now)) (a .words .now) (requestOf (a .edit .q)) (entryOf (a .e)) (a .b) in
+    let t : ℕ → Bool = isOne (frameOf (a .edit .f) (a .words .now)) (a .words .now) (requestOf (a .edit .q)) (entryOf (a .e)) (a .b) in
     ap wantPieces (l .loop .inv .1 ∙ ap (λ (k : ℕ). pack 4 g k (PIECES - k)) z)
-    ∙ form-pieces (a .f .paw) (a .f .first .0) (length (a .words .now) / WORDS) (a .words .now) (requestOf (a .q)) (entryOf (a .e)) (a .b)
+    ∙ form-pieces (a .edit .f .paw) (a .edit .f .first .0) (length (a .words .now) / WORDS) (a .words .now) (requestOf (a .edit .q)) (entryOf (a .e)) (a .b)
     (ap (λ (k : ℕ). every t k (PIECES - k)) (sym z) ∙ l .loop .inv .2)
 
 pub pieces-form-spec : {M : Type 1} → statement M

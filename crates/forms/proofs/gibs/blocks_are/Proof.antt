@@ -16,26 +16,26 @@ use Rattle.forms.proofs.gibs.blocks_are.Statement.{statement}
 use Rattle.forms.proofs.gibs.blocks_are.Tie as tie
 
 abbrev Inv-loop : tie.InvT-loop
-Inv-loop f words q root g p i₀ i =
+Inv-loop edit words g p i₀ i =
     (i ≤ 32)
-    × (gibIsOne (frameOf f words) words (requestOf q) (root .0) g p ≡ every (blockIs (frameOf f words) words (requestOf q) (root .0) p) (32 - i) (g * 32 + i))
+    × (gibIsOne (frameOf (edit .f) words) words (requestOf (edit .q)) (edit .root .0) g p ≡ every (blockIs (frameOf (edit .f) words) words (requestOf (edit .q)) (edit .root .0) p) (32 - i) (g * 32 + i))
 
 abbrev μ-loop : tie.MeasureT-loop
-μ-loop f words q root g p i₀ i = 32 - i
+μ-loop edit words g p i₀ i = 32 - i
 
 turn : (c : tie.After-block-is Inv-loop μ-loop) → let l = c .before .before .before in let a = l .before .before .args in
-    c .block-is .result ≡ blockIs (frameOf (a .f) (a .words .now)) (a .words .now) (requestOf (a .q)) (a .root .0) (a .p) (a .g * 32 + l .loop .i)
+    c .block-is .result ≡ blockIs (frameOf (a .edit .f) (a .words .now)) (a .words .now) (requestOf (a .edit .q)) (a .edit .root .0) (a .p) (a .g * 32 + l .loop .i)
 turn c =
     let l = c .before .before .before in
     let a = l .before .before .args in
     c .block-is .ensures
-    ∙ ap (λ (e : Entry). allAre (frameOf (a .f) (a .words .now)) (a .words .now) (requestOf (a .q)) e (a .p) 8192 ((a .g * 32 + l .loop .i) * 8192)) (c .before .entry-at .ensures)
+    ∙ ap (λ (e : Entry). allAre (frameOf (a .edit .f) (a .words .now)) (a .words .now) (requestOf (a .edit .q)) e (a .p) 8192 ((a .g * 32 + l .loop .i) * 8192)) (c .before .entry-at .ensures .0)
 
 loop-holds : tie.Need-loop-holds Inv-loop μ-loop
 loop-holds c =
     let a = c .before .args in
     let z : a .g * 32 ≡ a .g * 32 + 0 = omega arith in
-    (omega arith, gib-every _ _ _ (a .root .0) (a .g) (a .p) ∙ ap (every (blockIs (frameOf (a .f) (a .words .now)) (a .words .now) (requestOf (a .q)) (a .root .0) (a .p)) 32) z)
+    (omega arith, gib-every _ _ _ (a .edit .root .0) (a .g) (a .p) ∙ ap (every (blockIs (frameOf (a .edit .f) (a .words .now)) (a .words .now) (requestOf (a .edit .q)) (a .edit .root .0) (a .p)) 32) z)
 
 mul-b : tie.Need-mul-b Inv-loop μ-loop
 mul-b c = let r = c .before .before .before .pre .0 in record { fits = omega (arith, r .few) }
@@ -53,7 +53,7 @@ block-is-requires c κs =
       omega (arith, r .few),
       s .pre .2,
       s .pre .3,
-      subst (Good (frameOf (s .args .f) (s .args .words .now)) (s .args .words .now)) (sym (c .entry-at .ensures)) (r .good (s .args .g * 32 + c .before .before .loop .i) (omega arith)),
+      subst (Good (frameOf (s .args .edit .f) (s .args .words .now)) (s .args .words .now)) (sym (c .entry-at .ensures .0)) (r .good (s .args .g * 32 + c .before .before .loop .i) (omega arith)),
     )
 
 returns : tie.Need-returns Inv-loop μ-loop
@@ -61,7 +61,7 @@ returns c =
     let l = c .before .before .before .before in
     let a = l .before .before .args in
     sym (l .loop .inv .1
-    ∙ every-stop (blockIs (frameOf (a .f) (a .words .now)) (a .words .now) (requestOf (a .q)) (a .root .0) (a .p)) 32 (a .g * 32) (l .loop .i) (omega arith) (sym (turn (c .before)) ∙ not-true _ (c .if1 .taken)))
+    ∙ every-stop (blockIs (frameOf (a .edit .f) (a .words .now)) (a .words .now) (requestOf (a .edit .q)) (a .edit .root .0) (a .p)) 32 (a .g * 32) (l .loop .i) (omega arith) (sym (turn (c .before)) ∙ not-true _ (c .if1 .taken)))
 
 add-i : tie.Need-add-i Inv-loop μ-loop
 add-i c = omega arith
@@ -75,7 +75,7 @@ loop-again c =
     let a = l .before .before .args in (
       omega arith,
       l .loop .inv .1
-          ∙ every-next (blockIs (frameOf (a .f) (a .words .now)) (a .words .now) (requestOf (a .q)) (a .root .0) (a .p)) 32 (a .g * 32) (l .loop .i) (omega arith) (sym (turn (c .before)) ∙ not-false _ (c .if1 .left)),
+          ∙ every-next (blockIs (frameOf (a .edit .f) (a .words .now)) (a .words .now) (requestOf (a .edit .q)) (a .edit .root .0) (a .p)) 32 (a .g * 32) (l .loop .i) (omega arith) (sym (turn (c .before)) ∙ not-false _ (c .if1 .left)),
     )
 
 returns-2 : tie.Need-returns-2 Inv-loop μ-loop
@@ -83,7 +83,7 @@ returns-2 c =
     let l = c .before in
     let a = l .before .before .args in
     let z : 32 - l .loop .i ≡ 0 = omega arith in
-    sym (l .loop .inv .1 ∙ every-none (blockIs (frameOf (a .f) (a .words .now)) (a .words .now) (requestOf (a .q)) (a .root .0) (a .p)) _ (a .g * 32 + l .loop .i) z)
+    sym (l .loop .inv .1 ∙ every-none (blockIs (frameOf (a .edit .f) (a .words .now)) (a .words .now) (requestOf (a .edit .q)) (a .edit .root .0) (a .p)) _ (a .g * 32 + l .loop .i) z)
 
 pub blocks-are-spec : {M : Type 1} → statement M
 blocks-are-spec =

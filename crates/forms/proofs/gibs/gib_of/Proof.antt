@@ -36,8 +36,8 @@ returns c =
     let a = c .before .before .before .before .args in
     let pre = c .before .before .before .before .pre in
     let h = rw (c .enum-told .given .1) at (c .before .before .lies .ensures) in (
-      inside-first (a .f .paw) (a .f .first .0) (length (a .words .now) / WORDS) (a .words .now) (requestOf (a .q)) (pre .2 .small) (a .root .0) (pre .0) (a .g) (pre .1) h,
-      inside-one (a .f .paw) (a .f .first .0) (length (a .words .now) / WORDS) (a .words .now) (requestOf (a .q)) (pre .2 .small) (a .root .0) (pre .0) (a .g) (pre .1) h,
+      inside-first (a .edit .f .paw) (a .edit .f .first .0) (length (a .words .now) / WORDS) (a .words .now) (requestOf (a .edit .q)) (pre .2 .small) (a .edit .root .0) (pre .0) (a .g) (pre .1) h,
+      inside-one (a .edit .f .paw) (a .edit .f .first .0) (length (a .words .now) / WORDS) (a .words .now) (requestOf (a .edit .q)) (pre .2 .small) (a .edit .root .0) (pre .0) (a .g) (pre .1) h,
       pre .2 .small,
     )
 

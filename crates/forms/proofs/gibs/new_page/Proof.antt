@@ -14,7 +14,7 @@ use Rattle.forms.proofs.gibs.new_page.Tie as tie
 use Rattle.forms.proofs.gibs.new_page.Reads as reads
 use Rattle.forms.proofs.gibs.new_page.Lts as lts
 use Rattle.forms.proofs.gibs.read_page.Reads as read-page-reads
-use Rattle.range.proofs.pages.lies.Reads as lies-reads
+use Rattle.types.proofs.pages.lies.Reads as lies-reads
 
 mul-lies : tie.Need-mul-lies
 mul-lies c = search needs
@@ -43,10 +43,10 @@ returns c =
     let l = c .before .before in
     let s = l .before .before in
     let a = s .args in
-    let F = frameOf (a .f) (a .words .now) in
-    let e = entryAt F (a .words .now) (a .root .0) (a .b) in
+    let F = frameOf (a .edit .f) (a .words .now) in
+    let e = entryAt F (a .words .now) (a .edit .root .0) (a .b) in
     ap (λ (x : Form). if needsPage x e then 1 else 0)
-    (form-inside (a .f .paw) (a .f .first .0) (length (a .words .now) / WORDS) (a .words .now) (requestOf (a .q)) (s .pre .2 .small) e (s .pre .0 .good (a .b) (s .pre .1)) (a .b)
+    (form-inside (a .edit .f .paw) (a .edit .f .first .0) (length (a .words .now) / WORDS) (a .words .now) (requestOf (a .edit .q)) (s .pre .2 .small) e (s .pre .0 .good (a .b) (s .pre .1)) (a .b)
     (rw (c .enum-told .given .1) at (l .lies .ensures)))
 
 returns-2 : tie.Need-returns-2

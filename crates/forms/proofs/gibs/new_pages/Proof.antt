@@ -4,18 +4,22 @@ use Prim.Native.Nat.{ℕ, _+_, _-_, _/_, _≤_, _<_}
 use native.Mathlib.Omega.{arith}
 use borrow.Author.Tests.{eqb-true}
 use borrow.Author.Needs.{needs}
+use lib.Dec.{lit≤}
 use Rattle.laws.proofs.Choices.{and-true}
-use Rattle.range.specs.Kinds.{Fair}
-use Rattle.forms.proofs.CountLaws.{ends, some, low-inside, high-inside, count-none, count-one, count-two, one-at-most}
+use Rattle.laws.proofs.Frames.{framed}
+use Rattle.range.proofs.Ends.{fair-of}
+use Rattle.table.specs.Board.{frameOf}
+use Rattle.types.specs.Range.{Fair}
+use Rattle.forms.proofs.CountLaws.{some, low-inside, high-inside, count-none, count-one, count-two, one-at-most}
 use Rattle.forms.proofs.gibs.new_pages.Statement.{statement}
 use Rattle.types.specs.Views.{requestOf}
 use Rattle.forms.proofs.gibs.new_pages.Tie as tie
 
-fair : (s : tie.Start) → Fair (s .args .q)
-fair s = record { small = s .pre .small; ends = ends (s .args .f) (s .args .words .now) (requestOf (s .args .q)) (s .args .root .0) (s .pre) }
+fair : (s : tie.Start) → Fair (s .args .edit .q)
+fair s = fair-of (frameOf (s .args .edit .f) (s .args .words .now)) (s .args .edit .q) (lit≤ tt) (framed _ _ (s .pre .okFrame) .0) (s .pre .range) (s .pre .small)
 
-some-size : (s : tie.Start) → 0 < s .args .q .size
-some-size s = some (s .args .f) (s .args .words .now) (requestOf (s .args .q)) (s .args .root .0) (s .pre)
+some-size : (s : tie.Start) → 0 < s .args .edit .q .size
+some-size s = some (s .args .edit .f) (s .args .words .now) (requestOf (s .args .edit .q)) (s .args .edit .root .0) (s .pre)
 
 -- the call's start, from where the two blocks are worked out
 abbrev startOf : (c : tie.After-struct-known2) → tie.Start
@@ -25,12 +29,12 @@ startOf c = c .before .before .before .before .before
 low-one : (c : tie.After-new-page) → c .new-page .result ≤ 1
 low-one c =
     let s = startOf (c .before) in
-    one-at-most (s .args .f) (s .args .words .now) (requestOf (s .args .q)) (s .args .root .0) (s .pre) (s .args .q .start .0 / 0x200_0000) _ (c .new-page .ensures)
+    one-at-most (s .args .edit .f) (s .args .words .now) (requestOf (s .args .edit .q)) (s .args .edit .root .0) (s .pre) (s .args .edit .q .start .0 / 0x200_0000) _ (c .new-page .ensures)
 
 high-one : (c : tie.After-new-page2) → c .new-page2 .result ≤ 1
 high-one c =
     let s = startOf (c .before .before .before) in
-    one-at-most (s .args .f) (s .args .words .now) (requestOf (s .args .q)) (s .args .root .0) (s .pre) ((s .args .q .start .0 + s .args .q .size - 1) / 0x200_0000) _ (c .new-page2 .ensures)
+    one-at-most (s .args .edit .f) (s .args .words .now) (requestOf (s .args .edit .q)) (s .args .edit .root .0) (s .pre) ((s .args .edit .q .start .0 + s .args .edit .q .size - 1) / 0x200_0000) _ (c .new-page2 .ensures)
 
 whole-pieces-requires : tie.Need-whole-pieces-requires
 whole-pieces-requires c κs = search needs
@@ -39,7 +43,7 @@ returns : tie.Need-returns
 returns c =
     let s = c .before .before .before in
     let w = and-true _ _ (sym (c .before .whole-pieces .ensures) ∙ c .if1 .taken) in
-    (count-none (s .args .f) (s .args .words .now) (requestOf (s .args .q)) (s .args .root .0) (s .pre) (eqb-true _ _ (w .0)) (eqb-true _ _ (w .1)), omega arith)
+    (count-none (s .args .edit .f) (s .args .words .now) (requestOf (s .args .edit .q)) (s .args .edit .root .0) (s .pre) (eqb-true _ _ (w .0)) (eqb-true _ _ (w .1)), omega arith)
 
 add-high : tie.Need-add-high
 add-high c = let s = startOf c in record { fits = omega (arith, fair s .ends) }
@@ -50,17 +54,17 @@ sub-high c = let s = startOf c in omega (arith, some-size s)
 new-page-requires : tie.Need-new-page-requires
 new-page-requires c κs =
     let s = startOf c in
-    (s .pre .rooted, low-inside (s .args .f) (s .args .words .now) (requestOf (s .args .q)) (s .args .root .0) (s .pre), fair s)
+    (s .pre .rooted, low-inside (s .args .edit .f) (s .args .words .now) (requestOf (s .args .edit .q)) (s .args .edit .root .0) (s .pre), fair s)
 
 returns-2 : tie.Need-returns-2
 returns-2 c =
     let s = startOf (c .before .before) in
-    (c .before .new-page .ensures ∙ count-one (s .args .f) (s .args .words .now) (requestOf (s .args .q)) (s .args .root .0) (s .pre) (c .if2 .taken), omega (arith, low-one (c .before)))
+    (c .before .new-page .ensures ∙ count-one (s .args .edit .f) (s .args .words .now) (requestOf (s .args .edit .q)) (s .args .edit .root .0) (s .pre) (c .if2 .taken), omega (arith, low-one (c .before)))
 
 new-page-requires-2 : tie.Need-new-page-requires-2
 new-page-requires-2 c κs =
     let s = startOf (c .before .before) in
-    (s .pre .rooted, high-inside (s .args .f) (s .args .words .now) (requestOf (s .args .q)) (s .args .root .0) (s .pre), fair s)
+    (s .pre .rooted, high-inside (s .args .edit .f) (s .args .words .now) (requestOf (s .args .edit .q)) (s .args .edit .root .0) (s .pre), fair s)
 
 add-result : tie.Need-add-result
 add-result c = record { fits = omega (arith, low-one (c .before .before), high-one c) }
@@ -69,7 +73,7 @@ returns-3 : tie.Need-returns-3
 returns-3 c =
     let s = startOf (c .before .before .before) in (
       ap₂ (λ (x y : ℕ). x + y) (c .before .before .new-page .ensures) (c .new-page2 .ensures)
-          ∙ count-two (s .args .f) (s .args .words .now) (requestOf (s .args .q)) (s .args .root .0) (s .pre) (c .before .if2 .left),
+          ∙ count-two (s .args .edit .f) (s .args .words .now) (requestOf (s .args .edit .q)) (s .args .edit .root .0) (s .pre) (c .before .if2 .left),
       omega (arith, low-one (c .before .before), high-one c),
     )
 

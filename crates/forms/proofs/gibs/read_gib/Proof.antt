@@ -4,7 +4,7 @@ use native.Mathlib.Omega.{arith}
 use lib.ListN.{length}
 use Rattle.table.specs.Board.{WORDS, PIECE, frameOf}
 use Rattle.forms.proofs.GibLaws.{first-of, mixed-gib}
-use Rattle.range.specs.Kinds.{Meets}
+use Rattle.types.specs.Range.{Meets}
 use Rattle.model.specs.Entry.{Entry}
 use Rattle.model.specs.Forms.{afterIn, gibFirst}
 use Rattle.theory.specs.Rooted.{Good}
@@ -14,12 +14,12 @@ use Rattle.types.specs.Views.{requestOf}
 use Rattle.forms.proofs.gibs.read_gib.Tie as tie
 
 -- the permission of the GiB's first page
-first-is : (c : tie.After-piece-first) → let a = c .before .before .before .args in c .piece-first .result ≡ gibFirst (frameOf (a .f) (a .words .now)) (a .words .now) (requestOf (a .q)) (a .root .0) (a .g)
+first-is : (c : tie.After-piece-first) → let a = c .before .before .before .args in c .piece-first .result ≡ gibFirst (frameOf (a .edit .f) (a .words .now)) (a .words .now) (requestOf (a .edit .q)) (a .edit .root .0) (a .g)
 first-is c =
     let a = c .before .before .before .args in
     c .piece-first .ensures .0
-    ∙ ap (λ (e : Entry). afterIn (frameOf (a .f) (a .words .now)) (a .words .now) (requestOf (a .q)) e (a .g * 32 * 8192 + 0 * PIECE)) (c .before .entry-at .ensures)
-    ∙ first-of _ _ _ (a .root .0) (a .g)
+    ∙ ap (λ (e : Entry). afterIn (frameOf (a .edit .f) (a .words .now)) (a .words .now) (requestOf (a .edit .q)) e (a .g * 32 * 8192 + 0 * PIECE)) (c .before .entry-at .ensures .0)
+    ∙ first-of _ _ _ (a .edit .root .0) (a .g)
 
 mul-b : tie.Need-mul-b
 mul-b c = search needs
@@ -33,7 +33,7 @@ piece-first-requires c κs =
       omega (arith, s .pre .0 .few),
       omega arith,
       s .pre .2,
-      subst (Good (frameOf (s .args .f) (s .args .words .now)) (s .args .words .now)) (sym (c .entry-at .ensures)) (s .pre .0 .good (s .args .g * 32) (omega arith)),
+      subst (Good (frameOf (s .args .edit .f) (s .args .words .now)) (s .args .words .now)) (sym (c .entry-at .ensures .0)) (s .pre .0 .good (s .args .g * 32) (omega arith)),
     )
 
 mul-meets : tie.Need-mul-meets
@@ -48,8 +48,8 @@ returns c =
     let s = k .before .before .before in
     let a = s .args in (
       first-is k,
-      mixed-gib (a .f .paw) (a .f .first .0) (length (a .words .now) / WORDS) (a .words .now) (requestOf (a .q)) (s .pre .2 .small) (a .root .0) (a .g) (k .piece-first .result)
-          (c .before .before .if1 .taken) (subst (Meets (requestOf (a .q)) (a .g * 32 * 8192) 262144) (c .if2 .taken) (c .before .meets .ensures)),
+      mixed-gib (a .edit .f .paw) (a .edit .f .first .0) (length (a .words .now) / WORDS) (a .words .now) (requestOf (a .edit .q)) (s .pre .2 .small) (a .edit .root .0) (a .g) (k .piece-first .result)
+          (c .before .before .if1 .taken) (subst (Meets (requestOf (a .edit .q)) (a .g * 32 * 8192) 262144) (c .if2 .taken) (c .before .meets .ensures)),
       k .piece-first .ensures .1,
     )
 

@@ -16,17 +16,17 @@ use Rattle.forms.proofs.gibs.read_page.Tie as tie
 use Rattle.forms.proofs.gibs.read_page.Reads as reads
 use Rattle.forms.proofs.gibs.read_page.Lts as lts
 use Rattle.forms.proofs.blocks.block_form.Reads as block-form-reads
-use Rattle.forms.proofs.blocks.entry_at.Reads as entry-at-reads
-use Rattle.forms.proofs.blocks.needs_page.Reads as needs-page-reads
+use Rattle.table.proofs.root.entry_at.Reads as entry-at-reads
+use Rattle.types.proofs.blocks.needs_page.Reads as needs-page-reads
 
 need-here : (c : tie.After-needs-page2) → let a = c .before .before .before .before .before .before .args in
-    c .needs-page2 .result ≡ needsPage (model.formIn (frameOf (a .f) (a .words .now)) (a .words .now) (requestOf (a .q)) false 0 (walk.entryAt (frameOf (a .f) (a .words .now)) (a .words .now) (a .root .0) (a .b)) (a .b)) (walk.entryAt (frameOf (a .f) (a .words .now)) (a .words .now) (a .root .0) (a .b))
+    c .needs-page2 .result ≡ needsPage (model.formIn (frameOf (a .edit .f) (a .words .now)) (a .words .now) (requestOf (a .edit .q)) false 0 (walk.entryAt (frameOf (a .edit .f) (a .words .now)) (a .words .now) (a .edit .root .0) (a .b)) (a .b)) (walk.entryAt (frameOf (a .edit .f) (a .words .now)) (a .words .now) (a .edit .root .0) (a .b))
 need-here c =
     let a = c .before .before .before .before .before .before .args in
-    let ea = c .before .before .before .before .entry-at .ensures in
+    let ea = c .before .before .before .before .entry-at .ensures .0 in
     c .needs-page2 .ensures
     ∙ ap₂ (λ (x : model.Form) (e : Entry). needsPage x e)
-    (c .before .block-form .ensures ∙ ap (λ (e : Entry). model.formIn (frameOf (a .f) (a .words .now)) (a .words .now) (requestOf (a .q)) false 0 e (a .b)) ea) ea
+    (c .before .block-form .ensures ∙ ap (λ (e : Entry). model.formIn (frameOf (a .edit .f) (a .words .now)) (a .words .now) (requestOf (a .edit .q)) false 0 e (a .b)) ea) ea
 
 -- src/gibs.rt:86:9
 entry-at-requires : tie.Need-entry-at-requires
@@ -38,7 +38,7 @@ needs-page-requires c κs = search needs
 
 -- src/gibs.rt:88:9
 returns : tie.Need-returns
-returns c = let ea = c .before .before .entry-at .ensures in
+returns c = let ea = c .before .before .entry-at .ensures .0 in
     rw (table-none _ (model.formIn _ _ _ false 0 _ _) (ap (needsPage model.wantTable) (sym ea) ∙ sym (c .before .needs-page .ensures) ∙ not-true _ (c .if1 .taken)))
 
 -- src/gibs.rt:90:19
@@ -46,7 +46,7 @@ block-form-requires : tie.Need-block-form-requires
 block-form-requires c κs = let s = c .before .before .before .before in (
   omega (arith, s .pre .0 .few, s .pre .1),
   s .pre .2,
-  subst (Good (frameOf (s .args .f) (s .args .words .now)) (s .args .words .now)) (sym (c .before .before .entry-at .ensures)) (s .pre .0 .good (s .args .b) (s .pre .1)),
+  subst (Good (frameOf (s .args .edit .f) (s .args .words .now)) (s .args .words .now)) (sym (c .before .before .entry-at .ensures .0)) (s .pre .0 .good (s .args .b) (s .pre .1)),
 )
 
 -- src/gibs.rt:90:8

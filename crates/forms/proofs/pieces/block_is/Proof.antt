@@ -34,7 +34,7 @@ returns : tie.Need-returns
 returns c =
     let s = c .before .before .before .before .before in
     let a = s .args in
-    run-inside (a .f .paw) (a .f .first .0) (length (a .words .now) / WORDS) (a .words .now) (requestOf (a .q)) (s .pre .2 .small) (entryOf (a .e)) (s .pre .3) (a .p) 8191 (a .b * 8192)
+    run-inside (a .edit .f .paw) (a .edit .f .first .0) (length (a .words .now) / WORDS) (a .words .now) (requestOf (a .edit .q)) (s .pre .2 .small) (entryOf (a .e)) (s .pre .3) (a .p) 8191 (a .b * 8192)
     (rw (c .before .enum-told .given .1) at (c .before .before .before .lies .ensures))
 
 returns-2 : tie.Need-returns-2

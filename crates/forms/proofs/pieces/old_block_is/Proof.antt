@@ -39,7 +39,7 @@ unfolding found permOf
 returns c =
     let s = c .before .before .before .before in
     let a = s .args in
-    run-outside (a .f .paw) (a .f .first .0) (length (a .words .now) / WORDS) (a .words .now) (requestOf (a .q)) (s .pre .2 .small) (entryOf (a .e)) (s .pre .3) (a .p) (c .before .e .given .0 .0) 8191 (a .b * 8192)
+    run-outside (a .edit .f .paw) (a .edit .f .first .0) (length (a .words .now) / WORDS) (a .words .now) (requestOf (a .edit .q)) (s .pre .2 .small) (entryOf (a .e)) (s .pre .3) (a .p) (c .before .e .given .0 .0) 8191 (a .b * 8192)
     (s .pre .4) (λ k lo hi. rw (c .before .e .given .1))
 
 returns-2 : tie.Need-returns-2
@@ -48,8 +48,8 @@ returns-2 c =
     let a = s .args in
     let x = c .before .e2 .given .0 .0 in
     rw (c .before .e2 .given .1)
-    (even-is (a .f .paw) (a .f .first .0) (length (a .words .now) / WORDS) (a .words .now) (requestOf (a .q)) (s .pre .2 .small) (pieces x) tt (a .b) (x % INFO) (omega arith)
-    (even-pieces (a .f .paw) (a .f .first .0) (length (a .words .now) / WORDS) (a .words .now) x (a .b))
+    (even-is (a .edit .f .paw) (a .edit .f .first .0) (length (a .words .now) / WORDS) (a .words .now) (requestOf (a .edit .q)) (s .pre .2 .small) (pieces x) tt (a .b) (x % INFO) (omega arith)
+    (even-pieces (a .edit .f .paw) (a .edit .f .first .0) (length (a .words .now) / WORDS) (a .words .now) x (a .b))
     (a .p) (s .pre .1) (s .pre .4))
 
 returns-3 : tie.Need-returns-3

@@ -27,16 +27,16 @@ returns c = let a = c .before .before .args in
     let pre = c .before .before .pre in
     let u = pre .1 in
     let z : a .b * 8192 + a .i * ROW * FIELDS ≡ a .b * 8192 + a .i * PIECE = omega arith in
-    let e : c .old-word .result % 16 ≡ afterIn (frameOf (a .f) (a .words .now)) (a .words .now) (requestOf (a .q)) (entryOf (a .e)) (a .b * 8192 + a .i * PIECE)
+    let e : c .old-word .result % 16 ≡ afterIn (frameOf (a .edit .f) (a .words .now)) (a .words .now) (requestOf (a .edit .q)) (entryOf (a .e)) (a .b * 8192 + a .i * PIECE)
     = ap (λ (k : ℕ). k % 16)
-    (c .old-word .ensures .0
-    ∙ word-outside (a .f .paw) (a .f .first .0) (length (a .words .now) / WORDS) (a .words .now) (requestOf (a .q)) (pre .2 .small) (entryOf (a .e)) (pre .3) (a .b) (a .i * ROW) (omega arith)
-    (subst (λ (k : ℕ). k < ENTRY) (c .old-word .ensures .0) (c .old-word .ensures .1)) (λ k lo hi. pre .4 k (omega arith) (omega arith)))
-    ∙ first-field (a .f .paw) (a .f .first .0) (length (a .words .now) / WORDS) (a .words .now) (requestOf (a .q)) (pre .2 .small) (entryOf (a .e)) (pre .3) (a .b) (a .i * ROW)
-    ∙ ap (afterIn (frameOf (a .f) (a .words .now)) (a .words .now) (requestOf (a .q)) (entryOf (a .e))) z in (
+    (c .old-word .ensures
+    ∙ word-outside (a .edit .f .paw) (a .edit .f .first .0) (length (a .words .now) / WORDS) (a .words .now) (requestOf (a .edit .q)) (pre .2 .small) (entryOf (a .e)) (pre .3) (a .b) (a .i * ROW) (omega arith)
+    (subst (λ (k : ℕ). k < ENTRY) (c .old-word .ensures) (omega arith)) (λ k lo hi. pre .4 k (omega arith) (omega arith)))
+    ∙ first-field (a .edit .f .paw) (a .edit .f .first .0) (length (a .words .now) / WORDS) (a .words .now) (requestOf (a .edit .q)) (pre .2 .small) (entryOf (a .e)) (pre .3) (a .b) (a .i * ROW)
+    ∙ ap (afterIn (frameOf (a .edit .f) (a .words .now)) (a .words .now) (requestOf (a .edit .q)) (entryOf (a .e))) z in (
       e,
       subst (λ (k : ℕ). k < 4) (sym e)
-          (after-small (a .f .paw) (a .f .first .0) (length (a .words .now) / WORDS) (a .words .now) (requestOf (a .q)) (pre .2 .small) (entryOf (a .e)) (pre .3) (a .b * 8192 + a .i * PIECE)),
+          (after-small (a .edit .f .paw) (a .edit .f .first .0) (length (a .words .now) / WORDS) (a .words .now) (requestOf (a .edit .q)) (pre .2 .small) (entryOf (a .e)) (pre .3) (a .b * 8192 + a .i * PIECE)),
     )
 
 pub old-first-spec : {M : Type 1} → statement M

@@ -54,7 +54,7 @@ unfolding found permOf
 returns c =
     let a = c .before .before .before .before .args in
     let pre = c .before .before .before .before .pre in
-    run-outside (a .f .paw) (a .f .first .0) (length (a .words .now) / WORDS) (a .words .now) (requestOf (a .q)) (pre .3 .small) (entryOf (a .e)) (pre .4) (a .p) (c .before .e .given .0 .0) (PIECE - 1) (a .b * 8192 + a .i * PIECE)
+    run-outside (a .edit .f .paw) (a .edit .f .first .0) (length (a .words .now) / WORDS) (a .words .now) (requestOf (a .edit .q)) (pre .3 .small) (entryOf (a .e)) (pre .4) (a .p) (c .before .e .given .0 .0) (PIECE - 1) (a .b * 8192 + a .i * PIECE)
     (pre .5) (λ k lo hi. rw (c .before .e .given .1))
 
 returns-2 : tie.Need-returns-2
@@ -63,7 +63,7 @@ returns-2 c =
     let a = c .before .before .before .before .before .args in
     let pre = c .before .before .before .before .before .pre in
     ap (λ (x : ℕ). eqb x (a .p)) (c .piece .ensures .0)
-    ∙ run-outside (a .f .paw) (a .f .first .0) (length (a .words .now) / WORDS) (a .words .now) (requestOf (a .q)) (pre .3 .small) (entryOf (a .e)) (pre .4) (a .p) (digit 4 (c .before .before .e2 .given .0 .0) (a .i)) (PIECE - 1) (a .b * 8192 + a .i * PIECE)
+    ∙ run-outside (a .edit .f .paw) (a .edit .f .first .0) (length (a .words .now) / WORDS) (a .words .now) (requestOf (a .edit .q)) (pre .3 .small) (entryOf (a .e)) (pre .4) (a .p) (digit 4 (c .before .before .e2 .given .0 .0) (a .i)) (PIECE - 1) (a .b * 8192 + a .i * PIECE)
     (pre .5) (λ k lo hi. let z : k % 8192 / PIECE ≡ a .i = omega arith in rw (c .before .before .e2 .given .1) (ap (digit 4 (c .before .before .e2 .given .0 .0)) z))
 
 returns-3 : tie.Need-returns-3
@@ -72,13 +72,13 @@ returns-3 c =
     let a = s .args in
     let t : ℕ = c .before .before .before .before .e3 .given .0 .0 .0 in
     let told = c .before .before .before .before .e3 .given .1 in
-    let F = frameOf (a .f) (a .words .now) in
+    let F = frameOf (a .edit .f) (a .words .now) in
     let at : c .before .before .page-at .result + a .i * ROW ≡ indexOf F t (a .i * ROW) = ap (λ (k : ℕ). k + a .i * ROW) (c .before .before .page-at .ensures .0) ∙ index-add F t (a .i * ROW) in
     c .same-words .ensures
     ∙ ap₂ (λ (w k : ℕ). every (λ j. eqb (getD (a .words .now) j 0) w) ROW k) (c .before .spread .ensures) at
-    ∙ piece-words (a .f .paw) (a .f .first .0) (length (a .words .now) / WORDS) (a .words .now) (requestOf (a .q)) (s .pre .3 .small) t (rw told at (s .pre .4)) (a .b) (a .i) (a .p) (s .pre .2) (s .pre .1) (s .pre .5)
+    ∙ piece-words (a .edit .f .paw) (a .edit .f .first .0) (length (a .words .now) / WORDS) (a .words .now) (requestOf (a .edit .q)) (s .pre .3 .small) t (rw told at (s .pre .4)) (a .b) (a .i) (a .p) (s .pre .2) (s .pre .1) (s .pre .5)
     (λ j u. omega (arith, c .before .before .before .before .before .before .shared-slice-known .given (indexOf F t (a .i * ROW) + j)))
-    ∙ ap (λ (e : Entry). allAre F (a .words .now) (requestOf (a .q)) e (a .p) PIECE (a .b * 8192 + a .i * PIECE)) (sym (ap entryOf told))
+    ∙ ap (λ (e : Entry). allAre F (a .words .now) (requestOf (a .edit .q)) e (a .p) PIECE (a .b * 8192 + a .i * PIECE)) (sym (ap entryOf told))
 
 returns-4 : tie.Need-returns-4
 unfolding found permOf
@@ -86,7 +86,7 @@ returns-4 c =
     let a = c .before .before .before .args in
     let pre = c .before .before .before .pre in
     eqb-swap (a .p) 0
-    ∙ run-outside (a .f .paw) (a .f .first .0) (length (a .words .now) / WORDS) (a .words .now) (requestOf (a .q)) (pre .3 .small) (entryOf (a .e)) (pre .4) (a .p) 0 (PIECE - 1) (a .b * 8192 + a .i * PIECE)
+    ∙ run-outside (a .edit .f .paw) (a .edit .f .first .0) (length (a .words .now) / WORDS) (a .words .now) (requestOf (a .edit .q)) (pre .3 .small) (entryOf (a .e)) (pre .4) (a .p) 0 (PIECE - 1) (a .b * 8192 + a .i * PIECE)
     (pre .5) (λ k lo hi. rw (c .enum-told .given .1))
 
 pub old-piece-is-spec : {M : Type 1} → statement M

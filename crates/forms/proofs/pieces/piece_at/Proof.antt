@@ -14,7 +14,7 @@ use Rattle.forms.proofs.pieces.piece_at.Reads as reads
 use Rattle.forms.proofs.pieces.piece_at.Lts as lts
 use Rattle.forms.proofs.pieces.cut_piece.Reads as cut-piece-reads
 use Rattle.forms.proofs.pieces.old_piece.Reads as old-piece-reads
-use Rattle.range.proofs.pages.lies.Reads as lies-reads
+use Rattle.types.proofs.pages.lies.Reads as lies-reads
 
 -- src/pieces.rt:132:19
 mul-lies : tie.Need-mul-lies
@@ -60,8 +60,8 @@ returns c = let s = c .before .before .before .before in
     let a = s .args in
     let h = rw (c .enum-told .given .1) at (c .before .before .lies .ensures) in (
       rw (h (a .b * 8192 + a .i * PIECE) (omega arith) (omega arith)),
-      sym (eq-eqb (a .q .permission) (a .q .permission) refl)
-          ∙ run-inside (a .f .paw) (a .f .first .0) (length (a .words .now) / WORDS) (a .words .now) (requestOf (a .q)) (s .pre .2 .small) (entryOf (a .e)) (s .pre .3) (a .q .permission) (PIECE - 1) (a .b * 8192 + a .i * PIECE) h,
+      sym (eq-eqb (a .edit .q .permission) (a .edit .q .permission) refl)
+          ∙ run-inside (a .edit .f .paw) (a .edit .f .first .0) (length (a .words .now) / WORDS) (a .words .now) (requestOf (a .edit .q)) (s .pre .2 .small) (entryOf (a .e)) (s .pre .3) (a .edit .q .permission) (PIECE - 1) (a .b * 8192 + a .i * PIECE) h,
       s .pre .2 .small,
     )
 

@@ -21,13 +21,13 @@ returns c =
     let a = c .before .before .args in
     let pre = c .before .before .pre in
     let z : a .b * 8192 + a .i * ROW * FIELDS ≡ a .b * 8192 + a .i * PIECE = omega arith in
-    let e : c .after-word .result % 16 ≡ afterIn (frameOf (a .f) (a .words .now)) (a .words .now) (requestOf (a .q)) (entryOf (a .e)) (a .b * 8192 + a .i * PIECE)
-    = ap (λ (k : ℕ). k % 16) (c .after-word .ensures .0)
-    ∙ first-field (a .f .paw) (a .f .first .0) (length (a .words .now) / WORDS) (a .words .now) (requestOf (a .q)) (pre .2 .small) (entryOf (a .e)) (pre .3) (a .b) (a .i * ROW)
-    ∙ ap (afterIn (frameOf (a .f) (a .words .now)) (a .words .now) (requestOf (a .q)) (entryOf (a .e))) z in (
+    let e : c .after-word .result % 16 ≡ afterIn (frameOf (a .edit .f) (a .words .now)) (a .words .now) (requestOf (a .edit .q)) (entryOf (a .e)) (a .b * 8192 + a .i * PIECE)
+    = ap (λ (k : ℕ). k % 16) (c .after-word .ensures)
+    ∙ first-field (a .edit .f .paw) (a .edit .f .first .0) (length (a .words .now) / WORDS) (a .words .now) (requestOf (a .edit .q)) (pre .2 .small) (entryOf (a .e)) (pre .3) (a .b) (a .i * ROW)
+    ∙ ap (afterIn (frameOf (a .edit .f) (a .words .now)) (a .words .now) (requestOf (a .edit .q)) (entryOf (a .e))) z in (
       e,
       subst (λ (k : ℕ). k < 4) (sym e)
-          (after-small (a .f .paw) (a .f .first .0) (length (a .words .now) / WORDS) (a .words .now) (requestOf (a .q)) (pre .2 .small) (entryOf (a .e)) (pre .3) (a .b * 8192 + a .i * PIECE)),
+          (after-small (a .edit .f .paw) (a .edit .f .first .0) (length (a .words .now) / WORDS) (a .words .now) (requestOf (a .edit .q)) (pre .2 .small) (entryOf (a .e)) (pre .3) (a .b * 8192 + a .i * PIECE)),
     )
 
 pub piece-first-spec : {M : Type 1} → statement M

@@ -47,7 +47,7 @@ returns : tie.Need-returns
 returns c =
     let a = c .before .before .before .before .before .args in
     let pre = c .before .before .before .before .before .pre in
-    run-inside (a .f .paw) (a .f .first .0) (length (a .words .now) / WORDS) (a .words .now) (requestOf (a .q)) (pre .3 .small) (entryOf (a .e)) (pre .4) (a .p) (PIECE - 1) (a .b * 8192 + a .i * PIECE)
+    run-inside (a .edit .f .paw) (a .edit .f .first .0) (length (a .words .now) / WORDS) (a .words .now) (requestOf (a .edit .q)) (pre .3 .small) (entryOf (a .e)) (pre .4) (a .p) (PIECE - 1) (a .b * 8192 + a .i * PIECE)
     (rw (c .before .enum-told .given .1) at (c .before .before .before .lies .ensures))
 
 returns-2 : tie.Need-returns-2
@@ -57,7 +57,7 @@ returns-3 : tie.Need-returns-3
 returns-3 c =
     let a = c .before .before .before .before .before .args in
     let z : a .b * 8192 + a .i * ROW * FIELDS ≡ a .b * 8192 + a .i * PIECE = omega arith in
-    c .words-are .ensures ∙ ap (allAre (frameOf (a .f) (a .words .now)) (a .words .now) (requestOf (a .q)) (entryOf (a .e)) (a .p) PIECE) z
+    c .words-are .ensures ∙ ap (allAre (frameOf (a .edit .f) (a .words .now)) (a .words .now) (requestOf (a .edit .q)) (entryOf (a .e)) (a .p) PIECE) z
 
 pub piece-is-spec : {M : Type 1} → statement M
 piece-is-spec =

@@ -13,18 +13,18 @@ use Rattle.forms.proofs.pieces.pieces_are.Statement.{statement}
 use Rattle.forms.proofs.pieces.pieces_are.Tie as tie
 
 abbrev Inv-loop : tie.InvT-loop
-Inv-loop f words q e b p i₀ i =
+Inv-loop edit words e b p i₀ i =
     (i ≤ PIECES)
-    × (allAre (frameOf f words) words (requestOf q) (entryOf e) p 8192 (b * 8192) ≡ allAre (frameOf f words) words (requestOf q) (entryOf e) p (8192 - i * PIECE) (b * 8192 + i * PIECE))
+    × (allAre (frameOf (edit .f) words) words (requestOf (edit .q)) (entryOf e) p 8192 (b * 8192) ≡ allAre (frameOf (edit .f) words) words (requestOf (edit .q)) (entryOf e) p (8192 - i * PIECE) (b * 8192 + i * PIECE))
 
 abbrev μ-loop : tie.MeasureT-loop
-μ-loop f words q e b p i₀ i = PIECES - i
+μ-loop edit words e b p i₀ i = PIECES - i
 
 loop-holds : tie.Need-loop-holds Inv-loop μ-loop
 loop-holds c =
     let a = c .before .args in
     let z : a .b * 8192 ≡ a .b * 8192 + 0 * PIECE = omega arith in
-    (omega arith, ap (allAre (frameOf (a .f) (a .words .now)) (a .words .now) (requestOf (a .q)) (entryOf (a .e)) (a .p) 8192) z)
+    (omega arith, ap (allAre (frameOf (a .edit .f) (a .words .now)) (a .words .now) (requestOf (a .edit .q)) (entryOf (a .e)) (a .p) 8192) z)
 
 piece-is-requires : tie.Need-piece-is-requires Inv-loop μ-loop
 piece-is-requires c κs = search needs
@@ -35,7 +35,7 @@ returns c =
     let a = l .before .before .args in
     let pre = l .before .before .pre in
     sym (l .loop .inv .1
-    ∙ pieces-stop (a .f .paw) (a .f .first .0) (length (a .words .now) / WORDS) (a .words .now) (requestOf (a .q)) (pre .2 .small) (entryOf (a .e)) (pre .3) (a .b) (l .loop .i) (a .p) (omega arith)
+    ∙ pieces-stop (a .edit .f .paw) (a .edit .f .first .0) (length (a .words .now) / WORDS) (a .words .now) (requestOf (a .edit .q)) (pre .2 .small) (entryOf (a .e)) (pre .3) (a .b) (l .loop .i) (a .p) (omega arith)
     (sym (c .before .piece-is .ensures) ∙ not-true _ (c .if1 .taken)))
 
 add-i : tie.Need-add-i Inv-loop μ-loop
@@ -51,7 +51,7 @@ loop-again c =
     let pre = l .before .before .pre in (
       omega arith,
       l .loop .inv .1
-          ∙ pieces-next (a .f .paw) (a .f .first .0) (length (a .words .now) / WORDS) (a .words .now) (requestOf (a .q)) (pre .2 .small) (entryOf (a .e)) (pre .3) (a .b) (l .loop .i) (a .p) (omega arith)
+          ∙ pieces-next (a .edit .f .paw) (a .edit .f .first .0) (length (a .words .now) / WORDS) (a .words .now) (requestOf (a .edit .q)) (pre .2 .small) (entryOf (a .e)) (pre .3) (a .b) (l .loop .i) (a .p) (omega arith)
           (sym (c .before .piece-is .ensures) ∙ not-false _ (c .if1 .left)),
     )
 
@@ -62,7 +62,7 @@ returns-2 c =
     let pre = l .before .before .pre in
     let z : 8192 - l .loop .i * PIECE ≡ 0 = omega arith in
     sym (l .loop .inv .1
-    ∙ all-none (a .f .paw) (a .f .first .0) (length (a .words .now) / WORDS) (a .words .now) (requestOf (a .q)) (pre .2 .small) (entryOf (a .e)) (pre .3) (a .p) _ (a .b * 8192 + l .loop .i * PIECE) z)
+    ∙ all-none (a .edit .f .paw) (a .edit .f .first .0) (length (a .words .now) / WORDS) (a .words .now) (requestOf (a .edit .q)) (pre .2 .small) (entryOf (a .e)) (pre .3) (a .p) _ (a .b * 8192 + l .loop .i * PIECE) z)
 
 pub pieces-are-spec : {M : Type 1} → statement M
 pieces-are-spec =

@@ -1,7 +1,9 @@
+-- `forms::pieces::same_words` meets its contract: the words that are left decide the whole.
 use mathlib.Core.Path.{_≡_, refl, sym, ap, _∙_}
 use mathlib.Core.Bool.{Bool, true, false}
 use Prim.Native.Nat.{ℕ, _+_, _-_, _≤_, _<_}
 use native.Mathlib.Omega.{arith}
+use borrow.Author.Needs.{needs}
 use lib.Dec.{eqb}
 use lib.ListN.{length, getD}
 use borrow.Author.Tests.{eq-eqb, ne-eqb}
@@ -18,20 +20,23 @@ abbrev μ-loop : tie.MeasureT-loop
 μ-loop words at want i₀ i = ROW - i
 
 loop-holds : tie.Need-loop-holds Inv-loop μ-loop
-loop-holds c = let a = c .before .args in
+loop-holds c = let a = c .args in
     let z : a .at ≡ a .at + 0 = omega arith in (omega arith, ap (every (λ k. eqb (getD (a .words .now) k 0) (a .want)) ROW) z)
 
-add-read-word : tie.Need-add-read-word Inv-loop μ-loop
-add-read-word c = omega arith
+add-if1 : tie.Need-add-if1 Inv-loop μ-loop
+add-if1 c = omega arith
 
-read-word-requires : tie.Need-read-word-requires Inv-loop μ-loop
-read-word-requires c κs = omega arith
+mul-if1 : tie.Need-mul-if1 Inv-loop μ-loop
+mul-if1 c = search needs
+
+shared-slice-read-if1 : tie.Need-shared-slice-read-if1 Inv-loop μ-loop
+shared-slice-read-if1 c = omega arith
 
 returns : tie.Need-returns Inv-loop μ-loop
 returns c =
     let l = c .before .before .before in
-    let a = l .before .before .args in
-    sym (l .loop .inv .1 ∙ every-stop (λ k. eqb (getD (a .words .now) k 0) (a .want)) ROW (a .at) (l .loop .i) (omega arith) (ap (λ (w : ℕ). eqb w (a .want)) (sym (c .before .read-word .ensures .0)) ∙ ne-eqb _ _ (c .if1 .taken)))
+    let a = l .before .args in
+    sym (l .loop .inv .1 ∙ every-stop (λ k. eqb (getD (a .words .now) k 0) (a .want)) ROW (a .at) (l .loop .i) (omega arith) (ne-eqb _ _ (c .if1 .taken)))
 
 add-i : tie.Need-add-i Inv-loop μ-loop
 add-i c = omega arith
@@ -42,13 +47,13 @@ loop-less c = omega arith
 loop-again : tie.Need-loop-again Inv-loop μ-loop
 loop-again c =
     let l = c .before .before .before in
-    let a = l .before .before .args in
-    (omega arith, l .loop .inv .1 ∙ every-next (λ k. eqb (getD (a .words .now) k 0) (a .want)) ROW (a .at) (l .loop .i) (omega arith) (ap (λ (w : ℕ). eqb w (a .want)) (sym (c .before .read-word .ensures .0)) ∙ eq-eqb _ _ (c .if1 .left)))
+    let a = l .before .args in
+    (omega arith, l .loop .inv .1 ∙ every-next (λ k. eqb (getD (a .words .now) k 0) (a .want)) ROW (a .at) (l .loop .i) (omega arith) (eq-eqb _ _ (c .if1 .left)))
 
 returns-2 : tie.Need-returns-2 Inv-loop μ-loop
 returns-2 c =
     let l = c .before in
-    let a = l .before .before .args in
+    let a = l .before .args in
     let z : ROW - l .loop .i ≡ 0 = omega arith in
     sym (l .loop .inv .1 ∙ every-none (λ k. eqb (getD (a .words .now) k 0) (a .want)) (ROW - l .loop .i) (a .at + l .loop .i) z)
 
@@ -59,8 +64,9 @@ same-words-spec =
     Inv-loop
     μ-loop
     loop-holds
-    add-read-word
-    read-word-requires
+    add-if1
+    mul-if1
+    shared-slice-read-if1
     returns
     add-i
     loop-less

@@ -16,23 +16,23 @@ use Rattle.forms.proofs.pieces.words_are.Statement.{statement}
 use Rattle.forms.proofs.pieces.words_are.Tie as tie
 
 abbrev Inv-loop : tie.InvT-loop
-Inv-loop f words q e b i p want j₀ j =
+Inv-loop edit words e b i p want j₀ j =
     (j ≤ ROW) × (want ≡ spreadOf p)
-    × (allAre (frameOf f words) words (requestOf q) (entryOf e) p PIECE (b * 8192 + i * FIELDS) ≡ allAre (frameOf f words) words (requestOf q) (entryOf e) p (PIECE - j * FIELDS) (b * 8192 + (i + j) * FIELDS))
+    × (allAre (frameOf (edit .f) words) words (requestOf (edit .q)) (entryOf e) p PIECE (b * 8192 + i * FIELDS) ≡ allAre (frameOf (edit .f) words) words (requestOf (edit .q)) (entryOf e) p (PIECE - j * FIELDS) (b * 8192 + (i + j) * FIELDS))
 
 abbrev μ-loop : tie.MeasureT-loop
-μ-loop f words q e b i p want j₀ j = ROW - j
+μ-loop edit words e b i p want j₀ j = ROW - j
 
 -- what the turn's entryOf says of its pages
 turn : (c : tie.After-after-word Inv-loop μ-loop) → let l = c .before .before in let a = l .before .before .before .args in
     eqb (c .after-word .result) (l .before .spread .result)
-    ≡ allAre (frameOf (a .f) (a .words .now)) (a .words .now) (requestOf (a .q)) (entryOf (a .e)) (a .p) FIELDS (a .b * 8192 + (a .i + l .loop .j) * FIELDS)
+    ≡ allAre (frameOf (a .edit .f) (a .words .now)) (a .words .now) (requestOf (a .edit .q)) (entryOf (a .e)) (a .p) FIELDS (a .b * 8192 + (a .i + l .loop .j) * FIELDS)
 turn c =
     let l = c .before .before in
     let a = l .before .before .before .args in
     let pre = l .before .before .before .pre in
-    ap₂ (λ (x y : ℕ). eqb x y) (c .after-word .ensures .0) (l .before .spread .ensures)
-    ∙ word-is (a .f .paw) (a .f .first .0) (length (a .words .now) / WORDS) (a .words .now) (requestOf (a .q)) (pre .3 .small) (entryOf (a .e)) (pre .4) (a .b) (a .i + l .loop .j) (a .p) (pre .2)
+    ap₂ (λ (x y : ℕ). eqb x y) (c .after-word .ensures) (l .before .spread .ensures)
+    ∙ word-is (a .edit .f .paw) (a .edit .f .first .0) (length (a .words .now) / WORDS) (a .words .now) (requestOf (a .edit .q)) (pre .3 .small) (entryOf (a .e)) (pre .4) (a .b) (a .i + l .loop .j) (a .p) (pre .2)
 
 spread-requires : tie.Need-spread-requires Inv-loop μ-loop
 spread-requires c κs = search needs
@@ -41,7 +41,7 @@ loop-holds : tie.Need-loop-holds Inv-loop μ-loop
 loop-holds c =
     let a = c .before .before .args in
     let z : a .b * 8192 + a .i * FIELDS ≡ a .b * 8192 + (a .i + 0) * FIELDS = omega arith in
-    (omega arith, c .spread .ensures, ap (allAre (frameOf (a .f) (a .words .now)) (a .words .now) (requestOf (a .q)) (entryOf (a .e)) (a .p) PIECE) z)
+    (omega arith, c .spread .ensures, ap (allAre (frameOf (a .edit .f) (a .words .now)) (a .words .now) (requestOf (a .edit .q)) (entryOf (a .e)) (a .p) PIECE) z)
 
 add-after-word : tie.Need-add-after-word Inv-loop μ-loop
 add-after-word c = omega arith
@@ -55,7 +55,7 @@ returns c =
     let a = l .before .before .before .args in
     let pre = l .before .before .before .pre in
     sym (l .loop .inv .2
-    ∙ words-stop (a .f .paw) (a .f .first .0) (length (a .words .now) / WORDS) (a .words .now) (requestOf (a .q)) (pre .3 .small) (entryOf (a .e)) (pre .4) (a .b) (a .i) (l .loop .j) (a .p) (omega arith)
+    ∙ words-stop (a .edit .f .paw) (a .edit .f .first .0) (length (a .words .now) / WORDS) (a .words .now) (requestOf (a .edit .q)) (pre .3 .small) (entryOf (a .e)) (pre .4) (a .b) (a .i) (l .loop .j) (a .p) (omega arith)
     (sym (turn (c .before)) ∙ ne-eqb _ _ (c .if1 .taken)))
 
 add-j : tie.Need-add-j Inv-loop μ-loop
@@ -72,7 +72,7 @@ loop-again c =
       omega arith,
       l .before .spread .ensures,
       l .loop .inv .2
-          ∙ words-next (a .f .paw) (a .f .first .0) (length (a .words .now) / WORDS) (a .words .now) (requestOf (a .q)) (pre .3 .small) (entryOf (a .e)) (pre .4) (a .b) (a .i) (l .loop .j) (a .p) (omega arith)
+          ∙ words-next (a .edit .f .paw) (a .edit .f .first .0) (length (a .words .now) / WORDS) (a .words .now) (requestOf (a .edit .q)) (pre .3 .small) (entryOf (a .e)) (pre .4) (a .b) (a .i) (l .loop .j) (a .p) (omega arith)
           (sym (turn (c .before)) ∙ eq-eqb _ _ (c .if1 .left)),
     )
 
@@ -83,7 +83,7 @@ returns-2 c =
     let pre = l .before .before .before .pre in
     let z : PIECE - l .loop .j * FIELDS ≡ 0 = omega arith in
     sym (l .loop .inv .2
-    ∙ all-none (a .f .paw) (a .f .first .0) (length (a .words .now) / WORDS) (a .words .now) (requestOf (a .q)) (pre .3 .small) (entryOf (a .e)) (pre .4) (a .p) _ (a .b * 8192 + (a .i + l .loop .j) * FIELDS) z)
+    ∙ all-none (a .edit .f .paw) (a .edit .f .first .0) (length (a .words .now) / WORDS) (a .words .now) (requestOf (a .edit .q)) (pre .3 .small) (entryOf (a .e)) (pre .4) (a .p) _ (a .b * 8192 + (a .i + l .loop .j) * FIELDS) z)
 
 pub words-are-spec : {M : Type 1} → statement M
 words-are-spec =

@@ -1,3 +1,4 @@
+-- `forms::words::after_word` meets its contract: inside the range, outside it, and across an end.
 use mathlib.Core.Path.{_≡_, sym, ap, _∙_, subst}
 use Prim.Native.Nat.{ℕ, _+_, _*_, _/_, _<_, _^_}
 use lib.ListN.{length}
@@ -48,28 +49,28 @@ returns : tie.Need-returns
 returns c =
     let a = c .before .before .before .before .before .args in
     let pre = c .before .before .before .before .before .pre in
-    (c .spread .ensures
-    ∙ word-inside (a .f .paw) (a .f .first .0) (length (a .words .now) / WORDS) (a .words .now) (requestOf (a .q)) (pre .2 .small) (entryOf (a .e)) (pre .3) (a .b) (a .i)
-    (rw (c .before .enum-told .given .1) at (c .before .before .before .lies .ensures)), omega (arith, c .spread .ensures, pre .2 .small))
+    c .spread .ensures
+    ∙ word-inside (a .edit .f .paw) (a .edit .f .first .0) (length (a .words .now) / WORDS) (a .words .now) (requestOf (a .edit .q)) (pre .2 .small) (entryOf (a .e)) (pre .3) (a .b) (a .i)
+    (rw (c .before .enum-told .given .1) at (c .before .before .before .lies .ensures))
 
 returns-2 : tie.Need-returns-2
 returns-2 c =
     let a = c .before .before .before .before .before .args in
     let pre = c .before .before .before .before .before .pre in
-    (c .old-word .ensures .0
-    ∙ word-outside (a .f .paw) (a .f .first .0) (length (a .words .now) / WORDS) (a .words .now) (requestOf (a .q)) (pre .2 .small) (entryOf (a .e)) (pre .3) (a .b) (a .i) (pre .1)
-    (subst (λ (k : ℕ). k < ENTRY) (c .old-word .ensures .0) (c .old-word .ensures .1))
-    (rw (c .before .enum-told2 .given .1) at (c .before .before .before .lies .ensures)), c .old-word .ensures .1)
+    c .old-word .ensures
+    ∙ word-outside (a .edit .f .paw) (a .edit .f .first .0) (length (a .words .now) / WORDS) (a .words .now) (requestOf (a .edit .q)) (pre .2 .small) (entryOf (a .e)) (pre .3) (a .b) (a .i) (pre .1)
+    (subst (λ (k : ℕ). k < ENTRY) (c .old-word .ensures) (omega arith))
+    (rw (c .before .enum-told2 .given .1) at (c .before .before .before .lies .ensures))
 
 returns-3 : tie.Need-returns-3
 returns-3 c =
     let a = c .before .before .before .before .before .before .args in
     let pre = c .before .before .before .before .before .before .pre in
     let s : ℕ = a .b * 8192 + a .i * FIELDS in
-    (c .mixed-word .ensures .0
-    ∙ ap (λ (w : ℕ). pack 16 (mixedAt (requestOf (a .q)) w s) FIELDS s) (c .before .old-word2 .ensures .0)
-    ∙ word-across (a .f .paw) (a .f .first .0) (length (a .words .now) / WORDS) (a .words .now) (requestOf (a .q)) (pre .2 .small) (entryOf (a .e)) (pre .3) (a .b) (a .i) (pre .1)
-    (subst (λ (k : ℕ). k < ENTRY) (c .before .old-word2 .ensures .0) (c .before .old-word2 .ensures .1)), c .mixed-word .ensures .1)
+    c .mixed-word .ensures
+    ∙ ap (λ (w : ℕ). pack 16 (mixedAt (requestOf (a .edit .q)) w s) FIELDS s) (c .before .old-word2 .ensures)
+    ∙ word-across (a .edit .f .paw) (a .edit .f .first .0) (length (a .words .now) / WORDS) (a .words .now) (requestOf (a .edit .q)) (pre .2 .small) (entryOf (a .e)) (pre .3) (a .b) (a .i) (pre .1)
+    (subst (λ (k : ℕ). k < ENTRY) (c .before .old-word2 .ensures) (omega arith))
 
 pub after-word-spec : {M : Type 1} → statement M
 after-word-spec =

@@ -1,12 +1,10 @@
-use mathlib.Core.Path.{_≡_}
-use Prim.Native.Nat.{ℕ, _+_}
-use lib.ListN.{getD}
-use mathlib.Core.Path.{sym, _∙_, ap}
-use native.Mathlib.Omega.{arith}
+-- `forms::words::old_word` meets its contract: by what the block's entry says.
+use mathlib.Core.Path.{_∙_, ap}
 use borrow.Author.Needs.{needs}
-use Rattle.forms.proofs.Fields.{index-add}
+use Rattle.laws.proofs.Frames.{word-at}
+use Rattle.table.specs.Board.{frameOf}
 use Rattle.forms.specs.Kinds.{spreadOf}
-use Rattle.model.specs.Frame.{indexOf, wordAt}
+use Rattle.model.specs.Frame.{wordAt}
 use Rattle.forms.proofs.words.old_word.Statement.{statement}
 use Rattle.forms.proofs.words.old_word.Tie as tie
 
@@ -34,32 +32,33 @@ page-at-requires c κs = (rw (c .before .e3 .given .1) at (c .before .before .be
 add-at : tie.Need-add-at
 add-at c = search needs
 
-read-word-requires : tie.Need-read-word-requires
-read-word-requires c κs = search needs
+mul-result : tie.Need-mul-result
+mul-result c = search needs
+
+shared-slice-read-result : tie.Need-shared-slice-read-result
+shared-slice-read-result c = search needs
 
 enum-told : tie.Need-enum-told
 enum-told c = search needs
 
+spread-requires-3 : tie.Need-spread-requires-3
+spread-requires-3 c κs = search needs
+
 returns : tie.Need-returns
-returns c = let small = spread-requires (c .before) (c .spread .lifetimes) in
-    (rw (c .before .before .e .given .1) (c .spread .ensures), omega (arith, c .spread .ensures, small))
+returns c = rw (c .before .before .e .given .1) (c .spread .ensures)
 
 returns-2 : tie.Need-returns-2
-returns-2 c = (
-      rw (c .before .before .before .e2 .given .1) (c .spread2 .ensures ∙ ap spreadOf (c .before .piece .ensures .0)),
-      omega (arith, c .spread2 .ensures, c .before .piece .ensures .1),
-    )
+returns-2 c = rw (c .before .before .before .e2 .given .1) (c .spread2 .ensures ∙ ap spreadOf (c .before .piece .ensures .0))
 
 returns-3 : tie.Need-returns-3
 unfolding wordAt
 returns-3 c =
     let a = c .before .before .before .before .before .before .args in
-    let at : c .before .page-at .result + a .i ≡ indexOf _ (c .before .before .before .e3 .given .0 .0 .0) (a .i)
-    = ap (λ (k : ℕ). k + a .i) (c .before .page-at .ensures .0) ∙ index-add _ (c .before .before .before .e3 .given .0 .0 .0) (a .i) in
-    (rw (c .before .before .before .e3 .given .1) (c .read-word .ensures .0 ∙ ap (λ (k : ℕ). getD (a .words .now) k 0) at), c .read-word .ensures .1)
+    rw (c .before .before .before .e3 .given .1)
+    (word-at (frameOf (a .f) (a .words .now)) (a .words .now) (c .before .before .before .e3 .given .0 .0 .0) (a .i) _ (c .before .page-at .ensures .0))
 
 returns-4 : tie.Need-returns-4
-returns-4 c = search needs
+returns-4 c = rw (c .before .enum-told .given .1) (c .spread3 .ensures)
 
 pub old-word-spec : {M : Type 1} → statement M
 old-word-spec =
@@ -73,8 +72,10 @@ old-word-spec =
     enum-known-e-3
     page-at-requires
     add-at
-    read-word-requires
+    mul-result
+    shared-slice-read-result
     enum-told
+    spread-requires-3
     returns
     returns-2
     returns-3

@@ -1,5 +1,6 @@
+-- `forms::words::splice_fields` meets its contract: a splice of bits at a multiple of four is one of fields.
 use mathlib.Core.Path.{ap, sym, subst, _∙_, _≡_}
-use Prim.Native.Nat.{ℕ, _+_, _*_, _/_, _%_, _^_, _<_}
+use Prim.Native.Nat.{ℕ, _<_}
 use native.Mathlib.Omega.{arith}
 use Rattle.table.specs.Board.{ENTRY, FIELDS}
 use Rattle.forms.proofs.SpliceLaws.{splice-bits}
@@ -12,7 +13,7 @@ returns : tie.Need-returns
 returns c =
     let a = c .before .args in
     let z : a .low ≡ spliced 16 FIELDS (a .low) (a .high) = omega arith in
-    (z ∙ ap (λ (k : ℕ). spliced 16 k (a .low) (a .high)) (sym (c .if1 .taken)), c .before .pre .1)
+    z ∙ ap (λ (k : ℕ). spliced 16 k (a .low) (a .high)) (sym (c .if1 .taken))
 
 mul-splice : tie.Need-mul-splice
 mul-splice c = search needs
@@ -20,11 +21,17 @@ mul-splice c = search needs
 splice-requires : tie.Need-splice-requires
 splice-requires c κs = search needs
 
-returns-2 : tie.Need-returns-2
-returns-2 c = let s = c .before .before in
+same : (c : tie.After-splice) → let a = c .before .before .args in c .splice .result ≡ spliced 16 (a .k) (a .low) (a .high)
+same c = let a = c .before .before .args in c .splice .ensures ∙ splice-bits 4 (a .k) (a .low) (a .high)
+
+narrow-requires : tie.Need-narrow-requires
+narrow-requires c κs =
+    let s = c .before .before in
     let a = s .args in
-    let same : c .splice .result ≡ spliced 16 (a .k) (a .low) (a .high) = c .splice .ensures ∙ splice-bits 4 (a .k) (a .low) (a .high) in
-    (same, subst (λ (w : ℕ). w < ENTRY) (sym same) (splice-lt 16 (omega arith) (a .k) FIELDS (a .low) (a .high) (s .pre .0) (s .pre .2)))
+    subst (λ (w : ℕ). w < ENTRY) (sym (same c)) (splice-lt 16 (omega arith) (a .k) FIELDS (a .low) (a .high) (s .pre) (omega arith))
+
+returns-2 : tie.Need-returns-2
+returns-2 c = c .narrow .ensures ∙ same (c .before)
 
 pub splice-fields-spec : {M : Type 1} → statement M
-splice-fields-spec = tie.close (tie.spec returns mul-splice splice-requires returns-2)
+splice-fields-spec = tie.close (tie.spec returns mul-splice splice-requires narrow-requires returns-2)

@@ -1,6 +1,6 @@
 -- `range::pages::first_entry` meets its contract: an entry below the one that holds the start ends before the range.
 use native.Mathlib.Omega.{arith}
-use Rattle.range.proofs.InRange.{below-false}
+use Rattle.laws.proofs.InRange.{below-false}
 use borrow.Author.Needs.{needs}
 use Rattle.range.proofs.pages.first_entry.Statement.{statement}
 use Rattle.range.proofs.pages.first_entry.Tie as tie

@@ -1,6 +1,6 @@
 -- `range::pages::past_entry` meets its contract: an entry that begins at the end or after it has no page of the range.
 use native.Mathlib.Omega.{arith}
-use Rattle.range.proofs.InRange.{above-false}
+use Rattle.laws.proofs.InRange.{above-false}
 use borrow.Author.Needs.{needs}
 use Rattle.range.proofs.pages.past_entry.Statement.{statement}
 use Rattle.range.proofs.pages.past_entry.Tie as tie

@@ -1,8 +1,8 @@
--- `table::page::page_of` meets its contract.
+-- `types::pages::page_of` meets its contract.
 use mathlib.Core.Path.{refl}
 use Rattle.model.specs.Frame.{pageOf}
-use Rattle.table.proofs.page.page_of.Statement.{statement}
-use Rattle.table.proofs.page.page_of.Tie as tie
+use Rattle.types.proofs.pages.page_of.Statement.{statement}
+use Rattle.types.proofs.pages.page_of.Tie as tie
 
 returns : tie.Need-returns
 unfolding pageOf

@@ -1,9 +1,9 @@
--- `range::pages::lies` meets its contract: each end of the run against each end of the range.
+-- `types::pages::lies` meets its contract: each end of the run against each end of the range.
 use native.Mathlib.Omega.{arith}
 use borrow.Author.Needs.{needs}
-use Rattle.range.proofs.InRange.{in-true, below-false, above-false}
-use Rattle.range.proofs.pages.lies.Statement.{statement}
-use Rattle.range.proofs.pages.lies.Tie as tie
+use Rattle.laws.proofs.InRange.{in-true, below-false, above-false}
+use Rattle.types.proofs.pages.lies.Statement.{statement}
+use Rattle.types.proofs.pages.lies.Tie as tie
 
 add-end : tie.Need-add-end
 add-end c = search needs

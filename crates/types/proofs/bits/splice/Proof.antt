@@ -1,4 +1,4 @@
--- `splice`: a power of two as the unit; the sum fits, since the high part and what is below the unit make at most what 64 bits hold.
+-- `types::bits::splice`: a power of two as the unit; the sum fits, since the high part and what is below the unit make at most what 64 bits hold.
 use mathlib.Core.Path.{_≡_, ap, sym, subst}
 use Prim.Native.Nat.{ℕ, _+_, _*_, _/_, _%_, _^_, _<_}
 use native.Mathlib.Nat.{div-mul-le-self}
@@ -6,8 +6,8 @@ use native.Mathlib.Omega.{arith}
 use lib.Pow.{pow-pos}
 use Rattle.laws.proofs.Splices.{spliced, splice-lt}
 use borrow.Author.Needs.{needs}
-use Rattle.forms.proofs.words.splice.Statement.{statement}
-use Rattle.forms.proofs.words.splice.Tie as tie
+use Rattle.types.proofs.bits.splice.Statement.{statement}
+use Rattle.types.proofs.bits.splice.Tie as tie
 
 -- the result, with the power of two in its place
 same : (c : tie.After-pow2) → let a = c .before .args in let u = c .pow2 .result in a .low % u + a .high / u * u ≡ spliced 2 (a .k) (a .low) (a .high)

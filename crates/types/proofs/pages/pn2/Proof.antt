@@ -1,8 +1,8 @@
--- `table::page::pn2` meets its contract.
+-- `types::pages::pn2` meets its contract.
 use mathlib.Core.Path.{refl}
 use Rattle.model.specs.Walk.{pn2}
-use Rattle.table.proofs.page.pn2.Statement.{statement}
-use Rattle.table.proofs.page.pn2.Tie as tie
+use Rattle.types.proofs.pages.pn2.Statement.{statement}
+use Rattle.types.proofs.pages.pn2.Tie as tie
 
 returns : tie.Need-returns
 unfolding pn2

@@ -1,4 +1,4 @@
--- `table::lent::pow2` meets its contract: the shift loses no bit.
+-- `types::bits::pow2` meets its contract: the shift loses no bit.
 use mathlib.Core.Path.{_∙_}
 use Prim.Native.Nat.{_^_}
 use native.Mathlib.Nat.{one-mul}
@@ -6,8 +6,8 @@ use native.Mathlib.Omega.{arith}
 use lib.Dec.{lit<}
 use lib.Pow.{shl-exact}
 use borrow.Author.Needs.{needs}
-use Rattle.table.proofs.lent.pow2.Statement.{statement}
-use Rattle.table.proofs.lent.pow2.Tie as tie
+use Rattle.types.proofs.bits.pow2.Statement.{statement}
+use Rattle.types.proofs.bits.pow2.Tie as tie
 
 shl-result : tie.Need-shl-result
 shl-result c = search needs

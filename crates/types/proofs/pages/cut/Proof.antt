@@ -1,8 +1,8 @@
--- `range::pages::cut` meets its contract.
+-- `types::pages::cut` meets its contract.
 use native.Mathlib.Omega.{arith}
 use borrow.Author.Needs.{needs}
-use Rattle.range.proofs.pages.cut.Statement.{statement}
-use Rattle.range.proofs.pages.cut.Tie as tie
+use Rattle.types.proofs.pages.cut.Statement.{statement}
+use Rattle.types.proofs.pages.cut.Tie as tie
 
 returns : tie.Need-returns
 returns c = record { few = omega arith; below = omega arith; past = λ h. omega arith }

@@ -1,7 +1,7 @@
 use mathlib.Core.Path.{_≡_, refl, sym, ap, _∙_}
 use borrow.Author.Needs.{needs}
-use Rattle.edit.proofs.block.next_page.Statement.{statement}
-use Rattle.edit.proofs.block.next_page.Tie as tie
+use Rattle.types.proofs.blocks.next_page.Statement.{statement}
+use Rattle.types.proofs.blocks.next_page.Tie as tie
 
 needs-page-requires : tie.Need-needs-page-requires
 needs-page-requires c κs = search needs

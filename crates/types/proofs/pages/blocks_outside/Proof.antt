@@ -1,10 +1,10 @@
 use native.Mathlib.Omega.{arith}
-use Rattle.range.proofs.InRange.{above-false, below-false}
+use Rattle.laws.proofs.InRange.{above-false, below-false}
 use borrow.Author.Needs.{needs}
-use Rattle.edit.proofs.block.blocks_outside.Statement.{statement}
-use Rattle.edit.proofs.block.blocks_outside.Tie as tie
-use Rattle.edit.proofs.block.blocks_outside.Reads as reads
-use Rattle.edit.proofs.block.blocks_outside.Lts as lts
+use Rattle.types.proofs.pages.blocks_outside.Statement.{statement}
+use Rattle.types.proofs.pages.blocks_outside.Tie as tie
+use Rattle.types.proofs.pages.blocks_outside.Reads as reads
+use Rattle.types.proofs.pages.blocks_outside.Lts as lts
 
 -- src/block.rt:108:16
 sub-rest : tie.Need-sub-rest

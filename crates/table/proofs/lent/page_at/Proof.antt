@@ -1,9 +1,9 @@
--- `table::lent::page_start` meets its contract: a lent page is one of the pages from the first, so its 512 words are inside.
+-- `table::lent::page_at` meets its contract: a lent page is one of the pages from the first, so its words are inside.
 use native.Mathlib.Omega.{arith}
 use Rattle.model.specs.Frame.{indexOf}
 use Rattle.laws.proofs.Frames.{lent-in}
-use Rattle.table.proofs.lent.page_start.Statement.{statement}
-use Rattle.table.proofs.lent.page_start.Tie as tie
+use Rattle.table.proofs.lent.page_at.Statement.{statement}
+use Rattle.table.proofs.lent.page_at.Tie as tie
 
 sub-result : tie.Need-sub-result
 sub-result c = let h = lent-in _ _ (c .before .before .pre) in omega arith
@@ -15,5 +15,5 @@ returns : tie.Need-returns
 unfolding indexOf
 returns c = let h = lent-in _ _ (c .before .before .pre) in omega arith
 
-pub page-start-spec : {M : Type 1} → statement M
-page-start-spec = tie.close (tie.spec sub-result mul-result returns)
+pub page-at-spec : {M : Type 1} → statement M
+page-at-spec = tie.close (tie.spec sub-result mul-result returns)

@@ -1,14 +1,14 @@
--- `edit::block::page_from` meets its contract: the first two pages, as many as there are.
+-- `types::blocks::page_from` meets its contract: the first two pages, as many as there are.
 use mathlib.Core.Path.{_≡_, sym, ap, _∙_}
 use mathlib.Core.Logic.{_≢_}
 use mathlib.Core.List.{List, headD}
 use Prim.Native.Nat.{ℕ, _<_}
 use native.Mathlib.Omega.{arith}
 use lib.ListN.{drop}
 use Rattle.types.specs.Views.{freeList}
-use Rattle.edit.proofs.Fronts.{page-none, page-past, page-first, page-second}
-use Rattle.edit.proofs.block.page_from.Statement.{statement}
-use Rattle.edit.proofs.block.page_from.Tie as tie
+use Rattle.laws.proofs.Fronts.{page-none, page-past, page-first, page-second}
+use Rattle.types.proofs.blocks.page_from.Statement.{statement}
+use Rattle.types.proofs.blocks.page_from.Tie as tie
 
 returns : tie.Need-returns
 returns c =

@@ -1,8 +1,8 @@
 use mathlib.Core.Path.{_≡_, refl, sym, ap, _∙_}
 use borrow.Author.Needs.{needs}
 use Rattle.model.specs.Stores.{needsPage}
-use Rattle.forms.proofs.blocks.needs_page.Statement.{statement}
-use Rattle.forms.proofs.blocks.needs_page.Tie as tie
+use Rattle.types.proofs.blocks.needs_page.Statement.{statement}
+use Rattle.types.proofs.blocks.needs_page.Tie as tie
 
 enum-told : tie.Need-enum-told
 enum-told c = search needs
