@@ -5,19 +5,17 @@ use crate::put::put;
 use crate::rows::fill;
 use forms::words::after_word;
 use forms::words::old_word;
-use forms::words::page_at;
+use table::lent::page_at;
 use types::Place;
 use types::Request;
 use range::pages::first_entry;
 use range::pages::past_entry;
 use types::Entry;
 use types::Edit;
-use types::Frame;
-use types::PageNumber;
+use types::NewPage;
 use table::board::PAGE_WORDS;
 use table::board::PIECE_WORDS;
 use table::board::Word;
-use table::board::narrow;
 ghost use Rattle.model.specs.Layout.{blockPages};
 ghost use mathlib.Core.Path.{_≡_};
 ghost use mathlib.Core.Bool.{true};
@@ -38,44 +36,41 @@ ghost use Rattle.theory.specs.Rooted.{Good};
 ghost use Rattle.types.specs.Range.{Fair, Lies};
 
 // L1 entry i of block b, in the new page.
-pub fn new_entry(
+fn new_entry(
     edit: Edit,
     words: &mut [Word],
-    e: Entry,
-    b: u64,
-    new: PageNumber,
+    new: NewPage,
     i: u64,
     left: Budget,
 ) -> Went
     ghost { List Store }
-    requires { λ ss. ⌜ ss ≡ (storeAt (frameOf (edit .f) (now words)) (new .0) i (l1Word (frameOf (edit .f) (now words)) (now words) (requestOf (edit .q)) (entryOf e) b i) ∷ []) ⌝ }
-    requires { λ ss. ⌜ (b < BLOCKS) × (i < WORDS) × Fair (edit .q) × Good (frameOf (edit .f) (now words)) (now words) (entryOf e) × (lent (frameOf (edit .f) (now words)) (new .0) ≡ true) × Ahead (now words) ss ⌝ }
+    requires { λ ss. ⌜ ss ≡ (storeAt (frameOf (edit .f) (now words)) (new .page .0) i (l1Word (frameOf (edit .f) (now words)) (now words) (requestOf (edit .q)) (entryOf (new .e)) (new .b) i) ∷ []) ⌝ }
+    requires { λ ss. ⌜ (new .b < BLOCKS) × (i < WORDS) × Fair (edit .q) × Good (frameOf (edit .f) (now words)) (now words) (entryOf (new .e)) × (lent (frameOf (edit .f) (now words)) (new .page .0) ≡ true) × Ahead (now words) ss ⌝ }
     ensures { λ ss r. ⌜ out (r .all) (r .left) (now (words .exit)) ≡ run left ss (now (words .entry)) ⌝ }
 {
-    let at = page_at(edit.f, words, new) + i as usize;
-    let word = narrow(after_word(edit, words, e, b, i));
+    let e = new.e;
+    let at = page_at(edit.f, words, new.page) + i as usize;
+    let word = after_word(edit, words, e, new.b, i);
     put(words, left, at, word)
 }
 
 // The entries from .. to of a new page, in order.
-pub fn new_entries(
+fn new_entries(
     edit: Edit,
     words: &mut [Word],
-    e: Entry,
-    b: u64,
-    new: PageNumber,
+    new: NewPage,
     from: u64,
     to: u64,
     left: Budget,
 ) -> Went
     ghost { List Store }
-    requires { λ ss. ⌜ ss ≡ newRun (frameOf (edit .f) (now words)) (now words) (requestOf (edit .q)) (entryOf e) b (new .0) (to - from) from ⌝ }
-    requires { λ ss. ⌜ (b < BLOCKS) × (to ≤ WORDS) × (from ≤ to) × Fair (edit .q) × Good (frameOf (edit .f) (now words)) (now words) (entryOf e) × (lent (frameOf (edit .f) (now words)) (new .0) ≡ true) × Plain (entryOf e) × Ahead (now words) ss ⌝ }
+    requires { λ ss. ⌜ ss ≡ newRun (frameOf (edit .f) (now words)) (now words) (requestOf (edit .q)) (entryOf (new .e)) (new .b) (new .page .0) (to - from) from ⌝ }
+    requires { λ ss. ⌜ (new .b < BLOCKS) × (to ≤ WORDS) × (from ≤ to) × Fair (edit .q) × Good (frameOf (edit .f) (now words)) (now words) (entryOf (new .e)) × (lent (frameOf (edit .f) (now words)) (new .page .0) ≡ true) × Plain (entryOf (new .e)) × Ahead (now words) ss ⌝ }
     ensures { λ ss r. ⌜ out (r .all) (r .left) (now (words .exit)) ≡ run left ss (now (words .entry)) ⌝ }
 {
     let mut more = left;
     for i in from..to {
-        let went = new_entry(edit, words, e, b, new, i, more);
+        let went = new_entry(edit, words, new, i, more);
         if !went.all {
             return went;
         }
@@ -89,7 +84,7 @@ pub fn new_entries(
 }
 
 // Where the entries from i on stop being the same word, if the edit leaves them as they are: `to` at the latest.
-pub fn same_until(e: Entry, i: u64, to: u64) -> u64
+fn same_until(e: Entry, i: u64, to: u64) -> u64
     requires { ⌜ (i < to) × (to ≤ WORDS) ⌝ }
     ensures { λ r. ⌜ (i < r) × (r ≤ to) × ((F : frame.Frame) (m : List ℕ) (k : ℕ) → i ≤ k → k < r → oldWord F m (entryOf e) k ≡ oldWord F m (entryOf e) i) ⌝ }
 {
@@ -103,28 +98,27 @@ pub fn same_until(e: Entry, i: u64, to: u64) -> u64
 }
 
 // The entries from .. to, outside the range and all one word: where the limit allows for them, they are filled without asking at each.
-pub fn old_fill(
+fn old_fill(
     edit: Edit,
     words: &mut [Word],
-    e: Entry,
-    b: u64,
-    new: PageNumber,
+    new: NewPage,
     from: u64,
     to: u64,
     left: Budget,
 ) -> Went
     ghost { List Store }
-    requires { λ ss. ⌜ ss ≡ newRun (frameOf (edit .f) (now words)) (now words) (requestOf (edit .q)) (entryOf e) b (new .0) (to - from) from ⌝ }
-    requires { λ ss. ⌜ (b < BLOCKS) × (to ≤ WORDS) × (from < to) × Fair (edit .q) × Good (frameOf (edit .f) (now words)) (now words) (entryOf e) × (lent (frameOf (edit .f) (now words)) (new .0) ≡ true) × Plain (entryOf e)
-        × Lies (requestOf (edit .q)) (b * blockPages + from * FIELDS) ((to - from) * FIELDS) Place.Outside × ((k : ℕ) → from ≤ k → k < to → oldWord (frameOf (edit .f) (now words)) (now words) (entryOf e) k ≡ oldWord (frameOf (edit .f) (now words)) (now words) (entryOf e) from) × Ahead (now words) ss ⌝ }
+    requires { λ ss. ⌜ ss ≡ newRun (frameOf (edit .f) (now words)) (now words) (requestOf (edit .q)) (entryOf (new .e)) (new .b) (new .page .0) (to - from) from ⌝ }
+    requires { λ ss. ⌜ (new .b < BLOCKS) × (to ≤ WORDS) × (from < to) × Fair (edit .q) × Good (frameOf (edit .f) (now words)) (now words) (entryOf (new .e)) × (lent (frameOf (edit .f) (now words)) (new .page .0) ≡ true) × Plain (entryOf (new .e))
+        × Lies (requestOf (edit .q)) (new .b * blockPages + from * FIELDS) ((to - from) * FIELDS) Place.Outside × ((k : ℕ) → from ≤ k → k < to → oldWord (frameOf (edit .f) (now words)) (now words) (entryOf (new .e)) k ≡ oldWord (frameOf (edit .f) (now words)) (now words) (entryOf (new .e)) from) × Ahead (now words) ss ⌝ }
     ensures { λ ss r. ⌜ out (r .all) (r .left) (now (words .exit)) ≡ run left ss (now (words .entry)) ⌝ }
 {
     let n = to - from;
     if left.more < n {
-        return new_entries(edit, words, e, b, new, from, to, left);
+        return new_entries(edit, words, new, from, to, left);
     }
-    let word = narrow(old_word(edit.f, words, e, from));
-    let at = page_at(edit.f, words, new) + from as usize;
+    let e = new.e;
+    let word = old_word(edit.f, words, e, from);
+    let at = page_at(edit.f, words, new.page) + from as usize;
     let rest = fill(words, at, n as usize, word, left);
     Went {
         left: rest,
@@ -133,27 +127,26 @@ pub fn old_fill(
 }
 
 // The entries from .. to, outside the range: those that are one word at a time.
-pub fn old_entries(
+fn old_entries(
     edit: Edit,
     words: &mut [Word],
-    e: Entry,
-    b: u64,
-    new: PageNumber,
+    new: NewPage,
     from: u64,
     to: u64,
     left: Budget,
 ) -> Went
     ghost { List Store }
-    requires { λ ss. ⌜ ss ≡ newRun (frameOf (edit .f) (now words)) (now words) (requestOf (edit .q)) (entryOf e) b (new .0) (to - from) from ⌝ }
-    requires { λ ss. ⌜ (b < BLOCKS) × (to ≤ WORDS) × (from ≤ to) × Fair (edit .q) × Good (frameOf (edit .f) (now words)) (now words) (entryOf e) × (lent (frameOf (edit .f) (now words)) (new .0) ≡ true) × Plain (entryOf e)
-        × Lies (requestOf (edit .q)) (b * blockPages + from * FIELDS) ((to - from) * FIELDS) Place.Outside × Ahead (now words) ss ⌝ }
+    requires { λ ss. ⌜ ss ≡ newRun (frameOf (edit .f) (now words)) (now words) (requestOf (edit .q)) (entryOf (new .e)) (new .b) (new .page .0) (to - from) from ⌝ }
+    requires { λ ss. ⌜ (new .b < BLOCKS) × (to ≤ WORDS) × (from ≤ to) × Fair (edit .q) × Good (frameOf (edit .f) (now words)) (now words) (entryOf (new .e)) × (lent (frameOf (edit .f) (now words)) (new .page .0) ≡ true) × Plain (entryOf (new .e))
+        × Lies (requestOf (edit .q)) (new .b * blockPages + from * FIELDS) ((to - from) * FIELDS) Place.Outside × Ahead (now words) ss ⌝ }
     ensures { λ ss r. ⌜ out (r .all) (r .left) (now (words .exit)) ≡ run left ss (now (words .entry)) ⌝ }
 {
+    let e = new.e;
     let mut more = left;
     let mut i = from;
     while i < to {
         let end = same_until(e, i, to);
-        let went = old_fill(edit, words, e, b, new, i, end, more);
+        let went = old_fill(edit, words, new, i, end, more);
         if !went.all {
             return went;
         }
@@ -168,7 +161,7 @@ pub fn old_entries(
 }
 
 // Where the entries that the range can meet end, which is not before they begin.
-pub fn near_end(q: Request, b: u64, from: u64) -> u64
+fn near_end(q: Request, b: u64, from: u64) -> u64
     requires { ⌜ (b < BLOCKS) × (from ≤ WORDS) × Fair q ⌝ }
     ensures { λ r. ⌜ (from ≤ r) × (r ≤ WORDS) × Past (requestOf q) b r ⌝ }
 {
@@ -183,27 +176,25 @@ pub fn near_end(q: Request, b: u64, from: u64) -> u64
 pub fn stores(
     edit: Edit,
     words: &mut [Word],
-    e: Entry,
-    b: u64,
-    new: PageNumber,
+    new: NewPage,
     left: Budget,
 ) -> Went
     ghost { List Store }
-    requires { λ ss. ⌜ ss ≡ newTable (frameOf (edit .f) (now words)) (now words) (requestOf (edit .q)) (entryOf e) b (new .0) ⌝ }
-    requires { λ ss. ⌜ (b < BLOCKS) × Fair (edit .q) × Good (frameOf (edit .f) (now words)) (now words) (entryOf e) × (lent (frameOf (edit .f) (now words)) (new .0) ≡ true) × Plain (entryOf e) × Ahead (now words) ss ⌝ }
+    requires { λ ss. ⌜ ss ≡ newTable (frameOf (edit .f) (now words)) (now words) (requestOf (edit .q)) (entryOf (new .e)) (new .b) (new .page .0) ⌝ }
+    requires { λ ss. ⌜ (new .b < BLOCKS) × Fair (edit .q) × Good (frameOf (edit .f) (now words)) (now words) (entryOf (new .e)) × (lent (frameOf (edit .f) (now words)) (new .page .0) ≡ true) × Plain (entryOf (new .e)) × Ahead (now words) ss ⌝ }
     ensures { λ ss r. ⌜ out (r .all) (r .left) (now (words .exit)) ≡ run left ss (now (words .entry)) ⌝ }
 {
-    let from = first_entry(edit.q, b);
-    let to = near_end(edit.q, b, from);
-    let below = old_entries(edit, words, e, b, new, 0, from, left);
+    let from = first_entry(edit.q, new.b);
+    let to = near_end(edit.q, new.b, from);
+    let below = old_entries(edit, words, new, 0, from, left);
     if !below.all {
         return below;
     }
     let more = below.left;
-    let near = new_entries(edit, words, e, b, new, from, to, more);
+    let near = new_entries(edit, words, new, from, to, more);
     if !near.all {
         return near;
     }
     let rest = near.left;
-    old_entries(edit, words, e, b, new, to, PAGE_WORDS as u64, rest)
+    old_entries(edit, words, new, to, PAGE_WORDS as u64, rest)
 }

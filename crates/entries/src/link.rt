@@ -3,12 +3,9 @@ use types::Budget;
 use types::Went;
 use crate::fresh;
 use crate::put::put;
-use forms::words::page_at;
-use types::Request;
-use types::Entry;
+use table::lent::page_at;
 use types::Edit;
-use types::Frame;
-use types::PageNumber;
+use types::NewPage;
 use table::board::TABLE_ENTRY;
 use table::board::Word;
 use table::board::narrow;
@@ -27,43 +24,29 @@ ghost use Rattle.model.specs.Stores.{Store, storeL2, linkTable};
 ghost use Rattle.types.specs.Views.{entryOf, requestOf};
 ghost use Rattle.theory.specs.Rooted.{Good};
 
-// The L2 entry of block b that names the page.
-pub fn stores(
-    f: Frame,
-    words: &mut [Word],
-    root: PageNumber,
-    b: u64,
-    new: PageNumber,
-    left: Budget,
-) -> Went
+// The L2 entry of the block that names the page.
+fn stores(edit: Edit, words: &mut [Word], new: NewPage, left: Budget) -> Went
     ghost { List Store }
-    requires { λ ss. ⌜ ss ≡ (storeL2 (frameOf f (now words)) (root .0) b (encode board (table (new .0))) ∷ []) ⌝ }
-    requires { λ ss. ⌜ (b < BLOCKS) × (lent (frameOf f (now words)) (root .0) ≡ true) × (new .0 < 2 ^ board .infoBits) × Ahead (now words) ss ⌝ }
+    requires { λ ss. ⌜ ss ≡ (storeL2 (frameOf (edit .f) (now words)) (edit .root .0) (new .b) (encode board (table (new .page .0))) ∷ []) ⌝ }
+    requires { λ ss. ⌜ (new .b < BLOCKS) × (lent (frameOf (edit .f) (now words)) (edit .root .0) ≡ true) × (new .page .0 < 2 ^ board .infoBits) × Ahead (now words) ss ⌝ }
     ensures { λ ss r. ⌜ out (r .all) (r .left) (now (words .exit)) ≡ run left ss (now (words .entry)) ⌝ }
 {
-    let at = page_at(f, words, root) + b as usize;
-    put(words, left, at, narrow(TABLE_ENTRY + new.0))
+    let at = page_at(edit.f, words, edit.root) + new.b as usize;
+    put(words, left, at, narrow(TABLE_ENTRY + new.page.0))
 }
 
 // A new page, and then the L2 entry that names it.
-pub fn link_table(
-    edit: Edit,
-    words: &mut [Word],
-    e: Entry,
-    b: u64,
-    new: PageNumber,
-    left: Budget,
-) -> Went
+pub fn link_table(edit: Edit, words: &mut [Word], new: NewPage, left: Budget) -> Went
     ghost { List Store }
-    requires { λ ss. ⌜ ss ≡ linkTable (frameOf (edit .f) (now words)) (now words) (requestOf (edit .q)) (edit .root .0) (entryOf e) b (new .0) ⌝ }
-    requires { λ ss. ⌜ (b < BLOCKS) × Fair (edit .q) × Good (frameOf (edit .f) (now words)) (now words) (entryOf e) × (lent (frameOf (edit .f) (now words)) (new .0) ≡ true) × Plain (entryOf e)
-        × (lent (frameOf (edit .f) (now words)) (edit .root .0) ≡ true) × (new .0 < 2 ^ board .infoBits) × Ahead (now words) ss ⌝ }
+    requires { λ ss. ⌜ ss ≡ linkTable (frameOf (edit .f) (now words)) (now words) (requestOf (edit .q)) (edit .root .0) (entryOf (new .e)) (new .b) (new .page .0) ⌝ }
+    requires { λ ss. ⌜ (new .b < BLOCKS) × Fair (edit .q) × Good (frameOf (edit .f) (now words)) (now words) (entryOf (new .e)) × (lent (frameOf (edit .f) (now words)) (new .page .0) ≡ true) × Plain (entryOf (new .e))
+        × (lent (frameOf (edit .f) (now words)) (edit .root .0) ≡ true) × (new .page .0 < 2 ^ board .infoBits) × Ahead (now words) ss ⌝ }
     ensures { λ ss r. ⌜ out (r .all) (r .left) (now (words .exit)) ≡ run left ss (now (words .entry)) ⌝ }
 {
-    let first = fresh::stores(edit, words, e, b, new, left);
+    let first = fresh::stores(edit, words, new, left);
     if !first.all {
         return first;
     }
     let rest = first.left;
-    stores(f, words, root, b, new, rest)
+    stores(edit, words, new, rest)
 }

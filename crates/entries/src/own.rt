@@ -4,18 +4,15 @@ use types::Budget;
 use types::Went;
 use crate::put::put_changed;
 use forms::words::after_word;
-use forms::words::page_at;
+use table::lent::page_at;
 use types::Place;
-use types::Request;
 use range::pages::first_entry;
 use types::pages::lies;
 use range::pages::past_entry;
 use types::Entry;
 use types::Edit;
-use types::Frame;
 use types::PageNumber;
 use table::board::Word;
-use table::board::narrow;
 ghost use mathlib.Core.Path.{_≡_};
 ghost use mathlib.Core.List.{List};
 ghost use Prim.Native.Nat.{_<_};
@@ -30,7 +27,7 @@ ghost use Rattle.types.specs.Views.{requestOf};
 ghost use Rattle.model.specs.Entry as entry;
 
 // L1 entry i of block b, in the block's own page t.
-pub fn same_entry(
+fn same_entry(
     edit: Edit,
     words: &mut [Word],
     t: PageNumber,
@@ -44,12 +41,12 @@ pub fn same_entry(
     ensures { λ ss r. ⌜ out (r .all) (r .left) (now (words .exit)) ≡ run left ss (now (words .entry)) ⌝ }
 {
     let at = page_at(edit.f, words, t) + i as usize;
-    let word = narrow(after_word(edit, words, Entry::Table(t), b, i));
+    let word = after_word(edit, words, Entry::Table(t), b, i);
     put_changed(words, left, at, word)
 }
 
 // Those L1 entries of block b that change, in order, in the block's own page t. Entries that lie outside the range stay: they are not read.
-pub fn same_table(
+fn same_table(
     edit: Edit,
     words: &mut [Word],
     t: PageNumber,

@@ -5,19 +5,19 @@ use types::Went;
 use crate::put::put_changed;
 use crate::put::put_next;
 use types::Entry;
+use types::pages::GIB_BLOCKS;
 use table::word::decode;
 use table::board::EACH_PIECE;
 use table::board::PIECE_ENTRY;
 use table::board::Word;
 use table::board::narrow;
-use table::board::wide;
 ghost use mathlib.Core.Path.{_≡_};
 ghost use mathlib.Core.List.{List};
 ghost use Prim.Native.Nat.{ℕ, _+_, _≤_, _<_};
 ghost use lib.ListN.{length, getD};
+ghost use Rattle.model.specs.Layout.{gibBlocks};
 ghost use Rattle.model.specs.Numbers.{every};
 ghost use Rattle.model.specs.Stores.{Store};
-ghost use Rattle.table.specs.Board.{ENTRY};
 ghost use Rattle.entries.specs.Ahead.{Ahead};
 ghost use Rattle.entries.specs.Run.{whole, out, run};
 ghost use Rattle.entries.specs.Rows.{rowStores, fillStores, differs, piecesWord, PiecesAhead};
@@ -36,13 +36,13 @@ pub fn fill(words: &mut [Word], at: usize, n: usize, word: Word, left: Budget) -
     rest
 }
 
-// Each of the 32 words from at is another than this one. All are read, with no question between them.
+// Each of a GiB's words, from at on, is another than this one. All are read, with no question between them.
 fn all_differ(words: &[Word], at: usize, word: Word) -> bool
-    requires { ⌜ at + 32 ≤ length (now words) ⌝ }
-    ensures { λ r. ⌜ r ≡ every (differs (now (words .entry)) word) 32 at ⌝ }
+    requires { ⌜ at + gibBlocks ≤ length (now words) ⌝ }
+    ensures { λ r. ⌜ r ≡ every (differs (now (words .entry)) word) gibBlocks at ⌝ }
 {
     let mut differ = true;
-    for i in 0..32usize {
+    for i in 0..GIB_BLOCKS as usize {
         differ = differ & (words[at + i] != word);
     }
     differ
@@ -70,23 +70,23 @@ fn flat_row(words: &mut [Word], at: usize, n: usize, word: Word, left: Budget) -
     }
 }
 
-// The same. The 32 entries of a GiB, where all change and the limit allows for them, are filled.
+// The same. The entries of a GiB, where all change and the limit allows for them, are filled.
 pub fn flat_entries(words: &mut [Word], at: usize, n: usize, word: Word, left: Budget) -> Went
     ghost { List Store }
     requires { λ ss. ⌜ ss ≡ rowStores (now words) (λ w. word) n at ⌝ }
     requires { λ ss. ⌜ (at + n ≤ length (now words)) × Ahead (now words) ss ⌝ }
     ensures { λ ss r. ⌜ out (r .all) (r .left) (now (words .exit)) ≡ run left ss (now (words .entry)) ⌝ }
 {
-    if n != 32 {
+    if n != GIB_BLOCKS as usize {
         return flat_row(words, at, n, word, left);
     }
-    if left.more < 32 {
+    if left.more < GIB_BLOCKS {
         return flat_row(words, at, n, word, left);
     }
     if !all_differ(words, at, word) {
         return flat_row(words, at, n, word, left);
     }
-    let rest = fill(words, at, 32, word, left);
+    let rest = fill(words, at, GIB_BLOCKS as usize, word, left);
     Went {
         left: rest,
         all: true,
@@ -94,21 +94,15 @@ pub fn flat_entries(words: &mut [Word], at: usize, n: usize, word: Word, left: B
 }
 
 // The entry by pieces that says the same as an entry without an L1 page; zero for any other.
-fn pieces_number(word: u64) -> u64
-    ensures { λ r. ⌜ (r ≡ piecesWord word) × (r < ENTRY) ⌝ }
+fn pieces_word(word: Word) -> Word
+    ensures { λ r. ⌜ r ≡ piecesWord word ⌝ }
 {
     match decode(word) {
-        Entry::Flat(p) => PIECE_ENTRY + p * EACH_PIECE,
-        Entry::Pieces(info) => PIECE_ENTRY + info,
+        Entry::Flat(p) => narrow(PIECE_ENTRY + p * EACH_PIECE),
+        Entry::Pieces(info) => narrow(PIECE_ENTRY + info),
         Entry::Table(_) => 0,
         Entry::Invalid => 0,
     }
-}
-
-pub fn pieces_word(word: Word) -> Word
-    ensures { λ r. ⌜ r ≡ piecesWord word ⌝ }
-{
-    narrow(pieces_number(wide(word)))
 }
 
 // The words from at, n at the most, are to say the same by TYPE 6. An entry with an L1 page ends the row.

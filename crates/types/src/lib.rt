@@ -140,6 +140,13 @@ pub enum Form {
     Table,
 }
 
+// A block that gets a new L1 page: the block's entry, its number, and the page.
+pub struct NewPage {
+    pub e: Entry,
+    pub b: u64,
+    pub page: PageNumber,
+}
+
 // Whether a piece is of one permission once the edit is whole, and the permission of its first page.
 pub struct Piece {
     pub one: bool,

@@ -8,10 +8,10 @@ use Rattle.entries.proofs.fresh.old_entries.Statement.{statement}
 use Rattle.entries.proofs.fresh.old_entries.Tie as tie
 
 abbrev Inv-loop : tie.InvT-loop
-Inv-loop edit words₀ e b new from to more₀ i₀ words more i = New (edit .f) (requestOf (edit .q)) (entryOf e) b (new .0) words₀ more₀ from to words more i
+Inv-loop edit words₀ new from to e more₀ i₀ words more i = New (edit .f) (requestOf (edit .q)) (entryOf (new .e)) (new .b) (new .page .0) words₀ more₀ from to words more i
 
 abbrev μ-loop : tie.MeasureT-loop
-μ-loop edit words₀ e b new from to more₀ i₀ words more i = to - i
+μ-loop edit words₀ new from to e more₀ i₀ words more i = to - i
 
 loop-holds : tie.Need-loop-holds Inv-loop μ-loop
 loop-holds c = new-start (c .before .pre .1) (c .before .pre .2) (c .before .pre .8)

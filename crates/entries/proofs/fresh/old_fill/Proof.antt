@@ -39,9 +39,6 @@ returns c = search needs
 old-word-requires : tie.Need-old-word-requires
 old-word-requires c κs = search needs
 
-narrow-requires : tie.Need-narrow-requires
-narrow-requires c κs = search needs
-
 page-at-requires : tie.Need-page-at-requires
 page-at-requires c κs = search needs
 
@@ -53,43 +50,42 @@ same-length-2 c = search needs
 
 -- the word is that of every entry of the run
 word-of : (c : tie.After-old-word) → let s = c .before .before .before .before .before in let a = s .args in
-    (k : ℕ) → a .from ≤ k → k < a .to → c .old-word .result ≡ l1Word (frameOf (a .edit .f) (a .words .now)) (a .words .now) (requestOf (a .edit .q)) (entryOf (a .e)) (a .b) k
+    (k : ℕ) → a .from ≤ k → k < a .to → c .old-word .result ≡ l1Word (frameOf (a .edit .f) (a .words .now)) (a .words .now) (requestOf (a .edit .q)) (entryOf (a .new .e)) (a .new .b) k
 word-of c k lo hi =
     let s = c .before .before .before .before .before in
     let a = s .args in
     let m = a .words .now in
-    let same : c .old-word .result ≡ oldWord (frameOf (a .edit .f) m) m (entryOf (a .e)) k = c .old-word .ensures ∙ sym (s .pre .8 k lo hi) in
+    let same : c .old-word .result ≡ oldWord (frameOf (a .edit .f) m) m (entryOf (a .new .e)) k = c .old-word .ensures ∙ sym (s .pre .8 k lo hi) in
     same
-    ∙ word-outside (a .edit .f .paw) (a .edit .f .first .0) (length m / WORDS) m (requestOf (a .edit .q)) (s .pre .3 .small) (entryOf (a .e)) (s .pre .4) (a .b) k (omega (arith, s .pre .1))
+    ∙ word-outside (a .edit .f .paw) (a .edit .f .first .0) (length m / WORDS) m (requestOf (a .edit .q)) (s .pre .3 .small) (entryOf (a .new .e)) (s .pre .4) (a .new .b) k (omega (arith, s .pre .1))
     (subst (λ (w : ℕ). w < ENTRY) same (omega arith))
     (λ j l h. s .pre .7 j (omega arith) (omega arith))
 
 -- so a fill makes the stores of the run
-same-stores : (p : tie.After-page-at) → let w = p .before .before in let s = w .before .before .before .before .before .before in let a = s .args in
-    fillStores (w .narrow .result) (a .to - a .from) (p .page-at .result + a .from) ≡ newRun (frameOf (a .edit .f) (a .words .now)) (a .words .now) (requestOf (a .edit .q)) (entryOf (a .e)) (a .b) (a .new .0) (a .to - a .from) (a .from)
+same-stores : (p : tie.After-page-at) → let o = p .before .before in let s = o .before .before .before .before .before in let a = s .args in
+    fillStores (o .old-word .result) (a .to - a .from) (p .page-at .result + a .from) ≡ newRun (frameOf (a .edit .f) (a .words .now)) (a .words .now) (requestOf (a .edit .q)) (entryOf (a .new .e)) (a .new .b) (a .new .page .0) (a .to - a .from) (a .from)
 same-stores p =
-    let w = p .before .before in
-    let o = w .before in
+    let o = p .before .before in
     let s = o .before .before .before .before .before in
     let a = s .args in
     let m = a .words .now in
     let F = frameOf (a .edit .f) m in
     let n = a .to - a .from in
-    ap (fillStores (w .narrow .result) n) (place F (a .new .0) (a .from) (p .page-at .result) (p .page-at .ensures .0))
-    ∙ fill-run F m (requestOf (a .edit .q)) (entryOf (a .e)) (a .b) (a .new .0) (w .narrow .result) n (a .from) (λ k lo hi. w .narrow .ensures ∙ word-of o k lo (omega (arith, s .pre .2)))
+    ap (fillStores (o .old-word .result) n) (place F (a .new .page .0) (a .from) (p .page-at .result) (p .page-at .ensures .0))
+    ∙ fill-run F m (requestOf (a .edit .q)) (entryOf (a .new .e)) (a .new .b) (a .new .page .0) (o .old-word .result) n (a .from) (λ k lo hi. word-of o k lo (omega (arith, s .pre .2)))
 
 fill-requires : tie.Need-fill-requires
 fill-requires c κs =
     let p = c .before in
-    let s = p .before .before .before .before .before .before .before .before in
+    let s = p .before .before .before .before .before .before .before in
     let a = s .args in
-    let next : Ahead (a .words .now) (fillStores (p .before .before .narrow .result) (a .to - a .from) (p .page-at .result + a .from)) = ahead-of (sym (same-stores p)) (s .pre .9) in
+    let next : Ahead (a .words .now) (fillStores (p .before .before .old-word .result) (a .to - a .from) (p .page-at .result + a .from)) = ahead-of (sym (same-stores p)) (s .pre .9) in
     search needs
 
 returns-2 : tie.Need-returns-2
 returns-2 c =
     let p = c .before .before .before .before in
-    let a = p .before .before .before .before .before .before .before .before .args in
+    let a = p .before .before .before .before .before .before .before .args in
     c .before .before .fill .ensures ∙ ap (λ (ss : List Store). run (a .left) ss (a .words .now)) (same-stores p)
 
 pub old-fill-spec : {M : Type 1} → statement M
@@ -101,7 +97,6 @@ old-fill-spec =
     same-length
     returns
     old-word-requires
-    narrow-requires
     page-at-requires
     add-at
     fill-requires

@@ -25,10 +25,10 @@ near-end-requires c κs = search needs
 
 -- the stores of the entries from i on, as many as n; and of the whole page
 abbrev part : (n : tie.After-near-end) → ℕ → ℕ → List Store
-part n count i = let a = n .before .before .before .args in newRun (frameOf (a .edit .f) (a .words .now)) (a .words .now) (requestOf (a .edit .q)) (entryOf (a .e)) (a .b) (a .new .0) count i
+part n count i = let a = n .before .before .before .args in newRun (frameOf (a .edit .f) (a .words .now)) (a .words .now) (requestOf (a .edit .q)) (entryOf (a .new .e)) (a .new .b) (a .new .page .0) count i
 
 abbrev On : (n : tie.After-near-end) → Budget → List ℕ → List Store → Type 0
-On n more m rest = let a = n .before .before .before .args in Way (a .left) (a .words .now) (newTable (frameOf (a .edit .f) (a .words .now)) (a .words .now) (requestOf (a .edit .q)) (entryOf (a .e)) (a .b) (a .new .0)) more m rest
+On n more m rest = let a = n .before .before .before .args in Way (a .left) (a .words .now) (newTable (frameOf (a .edit .f) (a .words .now)) (a .words .now) (requestOf (a .edit .q)) (entryOf (a .new .e)) (a .new .b) (a .new .page .0)) more m rest
 
 abbrev from′ : tie.After-near-end → ℕ
 from′ n = n .before .first-entry .result
@@ -38,18 +38,18 @@ to′ n = n .near-end .result
 
 -- the same stores follow from the memory that stands
 same-part : (n : tie.After-near-end) (m : List ℕ) → let a = n .before .before .before .args in length m ≡ length (a .words .now) → (count i : ℕ)
-    → newRun (frameOf (a .edit .f) m) m (requestOf (a .edit .q)) (entryOf (a .e)) (a .b) (a .new .0) count i ≡ part n count i
+    → newRun (frameOf (a .edit .f) m) m (requestOf (a .edit .q)) (entryOf (a .new .e)) (a .new .b) (a .new .page .0) count i ≡ part n count i
 same-part n m len count i =
     let s = n .before .before .before in
     let a = s .args in
-    run-same (a .edit .f) (requestOf (a .edit .q)) (s .pre .1 .small) (entryOf (a .e)) (s .pre .4) (a .b) (a .new .0) (a .words .now) m len count i
+    run-same (a .edit .f) (requestOf (a .edit .q)) (s .pre .1 .small) (entryOf (a .new .e)) (s .pre .4) (a .new .b) (a .new .page .0) (a .words .now) m len count i
 
 -- before the first part, the second and the third
 first : (n : tie.After-near-end) → let a = n .before .before .before .args in On n (a .left) (a .words .now) (part n (from′ n - 0) 0 ++ (part n (to′ n - from′ n) (from′ n) ++ part n (WORDS - to′ n) (to′ n)))
 first n =
     let s = n .before .before .before in
     let a = s .args in
-    way-start (run-parts (a .edit .f) (requestOf (a .edit .q)) (s .pre .1 .small) (entryOf (a .e)) (s .pre .4) (a .b) (a .new .0) (a .words .now) (from′ n) (to′ n) (n .near-end .ensures .0) (n .near-end .ensures .1)) (s .pre .5)
+    way-start (run-parts (a .edit .f) (requestOf (a .edit .q)) (s .pre .1 .small) (entryOf (a .new .e)) (s .pre .4) (a .new .b) (a .new .page .0) (a .words .now) (from′ n) (to′ n) (n .near-end .ensures .0) (n .near-end .ensures .1)) (s .pre .5)
 
 second : (el : tie.Else1) → let oe = el .before .before .before .before in let n = oe .before .before in
     On n (oe .old-entries .result .left) (oe .old-entries .last .1 .0) (part n (to′ n - from′ n) (from′ n) ++ part n (WORDS - to′ n) (to′ n))
@@ -97,8 +97,8 @@ new-entries-requires c κs = let oe = c .before .before .before .before .before 
       n .near-end .ensures .1,
       n .near-end .ensures .0,
       s .pre .1,
-      good-same (a .edit .f) (a .words .now) (r .last .1 .0) (r .kept .1 .0) (entryOf (a .e)) (s .pre .4) (s .pre .2),
-      lent-same (a .edit .f) (a .words .now) (r .last .1 .0) (r .kept .1 .0) (a .new .0) (s .pre .3),
+      good-same (a .edit .f) (a .words .now) (r .last .1 .0) (r .kept .1 .0) (entryOf (a .new .e)) (s .pre .4) (s .pre .2),
+      lent-same (a .edit .f) (a .words .now) (r .last .1 .0) (r .kept .1 .0) (a .new .page .0) (s .pre .3),
       s .pre .4,
       ahead-of (sym (same-part n (r .last .1 .0) (r .kept .1 .0) _ _)) (way-ahead (second (c .before .before)) _ _ refl),
     )
@@ -124,8 +124,8 @@ old-entries-requires-2 c κs = let ne = c .before .before .before .before .befor
       omega arith,
       n .near-end .ensures .1,
       s .pre .1,
-      good-same (a .edit .f) (a .words .now) (t .last .1 .0) (t .kept .1 .0 ∙ r .kept .1 .0) (entryOf (a .e)) (s .pre .4) (s .pre .2),
-      lent-same (a .edit .f) (a .words .now) (t .last .1 .0) (t .kept .1 .0 ∙ r .kept .1 .0) (a .new .0) (s .pre .3),
+      good-same (a .edit .f) (a .words .now) (t .last .1 .0) (t .kept .1 .0 ∙ r .kept .1 .0) (entryOf (a .new .e)) (s .pre .4) (s .pre .2),
+      lent-same (a .edit .f) (a .words .now) (t .last .1 .0) (t .kept .1 .0 ∙ r .kept .1 .0) (a .new .page .0) (s .pre .3),
       s .pre .4,
       λ k lo hi. n .near-end .ensures .2 k (omega arith) (omega (arith, n .near-end .ensures .1)),
       ahead-of (sym (same-part n (t .last .1 .0) (t .kept .1 .0 ∙ r .kept .1 .0) _ _)) (third (c .before .before) .next),

@@ -19,13 +19,13 @@ use Rattle.entries.proofs.link.link_table.Tie as tie
 
 -- before the page, and before the link
 abbrev On : (s : tie.Start) → Budget → List ℕ → List Store → Type 0
-On s more m rest = let a = s .args in Way (a .left) (a .words .now) (linkTable (frameOf (a .edit .f) (a .words .now)) (a .words .now) (requestOf (a .edit .q)) (a .edit .root .0) (entryOf (a .e)) (a .b) (a .new .0)) more m rest
+On s more m rest = let a = s .args in Way (a .left) (a .words .now) (linkTable (frameOf (a .edit .f) (a .words .now)) (a .words .now) (requestOf (a .edit .q)) (a .edit .root .0) (entryOf (a .new .e)) (a .new .b) (a .new .page .0)) more m rest
 
 abbrev page : tie.Start → List Store
-page s = let a = s .args in newTable (frameOf (a .edit .f) (a .words .now)) (a .words .now) (requestOf (a .edit .q)) (entryOf (a .e)) (a .b) (a .new .0)
+page s = let a = s .args in newTable (frameOf (a .edit .f) (a .words .now)) (a .words .now) (requestOf (a .edit .q)) (entryOf (a .new .e)) (a .new .b) (a .new .page .0)
 
 abbrev link : tie.Start → List Store
-link s = let a = s .args in storeL2 (frameOf (a .edit .f) (a .words .now)) (a .edit .root .0) (a .b) (encode board (table (a .new .0))) ∷ []
+link s = let a = s .args in storeL2 (frameOf (a .edit .f) (a .words .now)) (a .edit .root .0) (a .new .b) (encode board (table (a .new .page .0))) ∷ []
 
 first : (s : tie.Start) → On s (s .args .left) (s .args .words .now) (page s ++ link s)
 unfolding linkTable
@@ -55,8 +55,8 @@ stores-requires-2 c κs =
     let a = s .args in
     let r = c .before .before .before .before .before .before .stores in
     let root : lent (frameOf (a .edit .f) (r .last .1 .0)) (a .edit .root .0) ≡ true = lent-same (a .edit .f) (a .words .now) (r .last .1 .0) (r .kept .1 .0) (a .edit .root .0) (s .pre .5) in
-    let next : Ahead (r .last .1 .0) (storeL2 (frameOf (a .edit .f) (r .last .1 .0)) (a .edit .root .0) (a .b) (encode board (table (a .new .0))) ∷ [])
-    = ahead-of (ap (λ (X : Frame). storeL2 X (a .edit .root .0) (a .b) (encode board (table (a .new .0))) ∷ []) (frame-same (a .edit .f) (a .words .now) (r .last .1 .0) (sym (r .kept .1 .0)))) (then (c .before .before) .next) in
+    let next : Ahead (r .last .1 .0) (storeL2 (frameOf (a .edit .f) (r .last .1 .0)) (a .edit .root .0) (a .new .b) (encode board (table (a .new .page .0))) ∷ [])
+    = ahead-of (ap (λ (X : Frame). storeL2 X (a .edit .root .0) (a .new .b) (encode board (table (a .new .page .0))) ∷ []) (frame-same (a .edit .f) (a .words .now) (r .last .1 .0) (sym (r .kept .1 .0)))) (then (c .before .before) .next) in
     search needs
 
 same-length-2 : tie.Need-same-length-2
@@ -68,7 +68,7 @@ returns-2 c =
     let a = el .before .before .before .before .before .before .before .args in
     let r = el .before .before .before .before .stores in
     c .before .before .stores2 .ensures
-    ∙ ap (λ (X : Frame). run (r .result .left) (storeL2 X (a .edit .root .0) (a .b) (encode board (table (a .new .0))) ∷ []) (r .last .1 .0)) (frame-same (a .edit .f) (r .last .1 .0) (a .words .now) (r .kept .1 .0))
+    ∙ ap (λ (X : Frame). run (r .result .left) (storeL2 X (a .edit .root .0) (a .new .b) (encode board (table (a .new .page .0))) ∷ []) (r .last .1 .0)) (frame-same (a .edit .f) (r .last .1 .0) (a .words .now) (r .kept .1 .0))
     ∙ sym (then el .same)
 
 pub link-table-spec : {M : Type 1} → statement M

@@ -24,7 +24,7 @@ unfolding encode storeL2 entryPage entryPlace
 put-requires c κs =
     let s = c .before .before .before .before .before .before in
     let a = s .args in
-    (search needs, next-store (frameOf (a .f) (a .words .now)) (a .root .0) (a .b) _ (c .before .before .before .page-at .ensures .0) (a .words .now) (c .narrow .ensures) (s .pre .3))
+    (search needs, next-store (frameOf (a .edit .f) (a .words .now)) (a .edit .root .0) (a .new .b) _ (c .before .before .before .page-at .ensures .0) (a .words .now) (c .narrow .ensures) (s .pre .3))
 
 same-length : tie.Need-same-length
 same-length c = search needs
@@ -33,7 +33,7 @@ returns : tie.Need-returns
 unfolding encode storeL2 entryPage entryPlace
 returns c =
     let a = c .before .before .before .before .before .before .before .before .before .args in
-    stored (frameOf (a .f) (a .words .now)) (a .root .0) (a .b) _ (c .before .before .before .before .before .before .page-at .ensures .0) (a .left) (a .words .now) (c .before .before .before .narrow .ensures) (c .before .before .put .ensures)
+    stored (frameOf (a .edit .f) (a .words .now)) (a .edit .root .0) (a .new .b) _ (c .before .before .before .before .before .before .page-at .ensures .0) (a .left) (a .words .now) (c .before .before .before .narrow .ensures) (c .before .before .put .ensures)
 
 pub stores-spec : {M : Type 1} → statement M
 stores-spec =

@@ -1,21 +1,78 @@
--- `entries::rows::pieces_word` meets its contract: the same as a number, which fits a word.
-use mathlib.Core.Path.{ap, _∙_}
+-- `entries::rows::pieces_word` meets its contract: by what the word says.
+use mathlib.Core.Path.{sym, ap, _∙_, subst}
+use Prim.Native.Nat.{_<_}
+use native.Mathlib.Omega.{arith}
+use Rattle.table.specs.Board.{INFO}
+use Rattle.entries.specs.Rows.{piecesOf}
+use Rattle.table.specs.Bounds.{Small}
+use Rattle.types.specs.Views.{entryOf}
 use borrow.Author.Needs.{needs}
-use Rattle.entries.specs.Rows.{piecesWord}
 use Rattle.entries.proofs.rows.pieces_word.Statement.{statement}
 use Rattle.entries.proofs.rows.pieces_word.Tie as tie
 
-wide-requires : tie.Need-wide-requires
-wide-requires c κs = search needs
+flat-small : (c : tie.After-p) → c .p .given .0 .0 < 4
+flat-small c = subst Small (ap entryOf (c .p .given .1)) (c .before .before .decode .ensures .1)
 
-pieces-number-requires : tie.Need-pieces-number-requires
-pieces-number-requires c κs = search needs
+pieces-small : (c : tie.After-info) → c .info .given .0 .0 < INFO
+pieces-small c = subst Small (ap entryOf (c .info .given .1)) (c .before .before .decode .ensures .1)
+
+decode-requires : tie.Need-decode-requires
+decode-requires c κs = search needs
+
+enum-known-p : tie.Need-enum-known-p
+enum-known-p c = search needs
+
+mul-narrow : tie.Need-mul-narrow
+mul-narrow c = record { fits = omega (arith, flat-small (c .before)) }
+
+add-narrow : tie.Need-add-narrow
+add-narrow c = record { fits = omega (arith, flat-small (c .before)) }
 
 narrow-requires : tie.Need-narrow-requires
-narrow-requires c κs = search needs
+narrow-requires c κs = omega (arith, flat-small (c .before))
+
+enum-known-info : tie.Need-enum-known-info
+enum-known-info c = search needs
+
+add-narrow-2 : tie.Need-add-narrow-2
+add-narrow-2 c = record { fits = omega (arith, pieces-small (c .before)) }
+
+narrow-requires-2 : tie.Need-narrow-requires-2
+narrow-requires-2 c κs = omega (arith, pieces-small (c .before))
+
+enum-told : tie.Need-enum-told
+enum-told c = search needs
+
+enum-told-2 : tie.Need-enum-told-2
+enum-told-2 c = search needs
 
 returns : tie.Need-returns
-returns c = c .narrow .ensures ∙ c .before .pieces-number .ensures .0 ∙ ap piecesWord (c .before .before .wide .ensures .0)
+returns c = c .narrow .ensures ∙ ap piecesOf (sym (ap entryOf (c .before .before .p .given .1)) ∙ c .before .before .before .before .decode .ensures .0)
+
+returns-2 : tie.Need-returns-2
+returns-2 c = c .narrow2 .ensures ∙ ap piecesOf (sym (ap entryOf (c .before .before .info .given .1)) ∙ c .before .before .before .before .decode .ensures .0)
+
+returns-3 : tie.Need-returns-3
+returns-3 c = ap piecesOf (sym (ap entryOf (c .enum-told .given .1)) ∙ c .before .before .decode .ensures .0)
+
+returns-4 : tie.Need-returns-4
+returns-4 c = ap piecesOf (sym (ap entryOf (c .enum-told2 .given .1)) ∙ c .before .before .decode .ensures .0)
 
 pub pieces-word-spec : {M : Type 1} → statement M
-pieces-word-spec = tie.close (tie.spec wide-requires pieces-number-requires narrow-requires returns)
+pieces-word-spec =
+    tie.close
+    (tie.spec
+    decode-requires
+    enum-known-p
+    mul-narrow
+    add-narrow
+    narrow-requires
+    enum-known-info
+    add-narrow-2
+    narrow-requires-2
+    enum-told
+    enum-told-2
+    returns
+    returns-2
+    returns-3
+    returns-4)
