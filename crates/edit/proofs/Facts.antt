@@ -2,7 +2,7 @@
 use mathlib.Core.Path.{_≡_, refl, sym, ap, ap₂, _∙_, subst}
 use mathlib.Core.Bool.{Bool, true, false}
 use mathlib.Core.List.{List, [], _∷_, _++_}
-use Prim.Native.Nat.{ℕ, _+_, _*_, _^_, _≤_, _<_, min}
+use Prim.Native.Nat.{ℕ, _+_, _*_, _^_, _≤_, _<_, min, _%_}
 use native.Mathlib.Omega.{arith}
 use lib.Dec.{eqb}
 use lib.ListN.{length, take, drop, length-take, take-append-drop}
@@ -92,6 +92,8 @@ pub record Facts (f : code.Frame) (m0 : List ℕ) (q : Request) (root : ℕ) (fr
   pub inside : firstGib q * 32 + gibs q * 32 ≤ blocks (frameOf f m0)
   pub ends : q .start + q .size ≤ 2 ^ 34
   pub some : 0 < q .size
+  pub starts : q .start % 4096 ≡ 0
+  pub whole : q .size % 4096 ≡ 0
   pub unused : (x : ℕ) → 0 < times x free → (lent (frameOf f m0) x ≡ true) × (times x (pagesOf (frameOf f m0) rs) + times x (links (frameOf f m0) m0 rs) ≡ 0)
   pub once : (x : ℕ) → times x free ≤ 1
   pub room : newPages (frameOf f m0) m0 root (firstGib q * 32) (forms (frameOf f m0) m0 q root) ≤ length free
@@ -139,6 +141,8 @@ module _ (f : code.Frame) (m0 : List ℕ) (q : Request) (root : ℕ) (free : Lis
         here = ap (λ (r : ℕ). times r rs) (a .isRoot) ∙ here-of E m0 k;
         inside = touched-inside F q range ok;
         ends = omega (arith, range .ends, pow-mono {i = f .paw} {j = 34} (ok .pawHigh));
+        starts = range .startPage;
+        whole = range .sizePage;
         some = range .some;
         unused = λ x l. let g = free-in F taken x (omega (arith, in-free x)) in (g .0, sym (used-measure F (times x) (times-measure x) m0 rs) ∙ g .1);
         once = λ x. omega (arith, in-free x, free-once F taken x);

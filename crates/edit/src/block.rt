@@ -11,21 +11,21 @@ use entries::rows::pieces_row;
 use types::Form;
 use types::Gib;
 use forms::blocks::block_form;
-use forms::blocks::entry_at;
-use types::blocks::needs_page;
-use forms::words::page_at;
-use types::Place;
-use types::Request;
+use table::root::entry_at;
+use types::blocks::next_page;
+use types::blocks::page_from;
+use types::pages::blocks_outside;
+use table::lent::page_at;
 use types::Free;
 use types::Entry;
 use types::Edit;
-use types::Frame;
+use types::NewPage;
 use types::PageNumber;
 use table::board::PIECE_ENTRY;
 use table::board::TYPE;
 use table::board::Word;
 use table::board::narrow;
-ghost use Rattle.model.specs.Layout.{gibBlocks, blockPages};
+ghost use Rattle.model.specs.Layout.{gibBlocks};
 ghost use mathlib.Core.Path.{_≡_};
 ghost use mathlib.Core.Bool.{true, false};
 ghost use mathlib.Core.List.{List, headD};
@@ -35,58 +35,42 @@ ghost use Rattle.edit.specs.Kinds.{Encodes, Fresh};
 ghost use Rattle.edit.specs.Over.{Did, storesOver};
 ghost use Rattle.entries.specs.Ahead.{Ahead};
 ghost use Rattle.entries.specs.Run.{out, run};
-ghost use Rattle.types.specs.Range.{Fair, Lies};
+ghost use Rattle.types.specs.Range.{Fair};
 ghost use Rattle.model.specs.Forms.{wantTable};
 ghost use Rattle.model.specs.Frame.{lent, blocks};
-ghost use Rattle.model.specs.Numbers.{if_then_else_};
 ghost use Rattle.model.specs.Stores.{Store, needsPage, ifChangedL2, blockStores};
 ghost use Rattle.types.specs.Views.{entryOf, requestOf, formOf, freeList};
 ghost use Rattle.theory.specs.Rooted.{Good, Rooted};
-ghost use Rattle.table.specs.Board.{BLOCKS, board, ENTRY, INFO, frameOf};
+ghost use Rattle.table.specs.Board.{BLOCKS, board, frameOf};
 
 // The L2 entry of block b, if it changes.
-pub fn put_entry(
-    f: Frame,
-    words: &mut [Word],
-    root: PageNumber,
-    b: u64,
-    word: u64,
-    left: Budget,
-) -> Went
+fn put_entry(edit: Edit, words: &mut [Word], b: u64, word: Word, left: Budget) -> Went
     ghost { List Store }
-    requires { λ ss. ⌜ ss ≡ ifChangedL2 (frameOf f (now words)) (now words) (root .0) b word ⌝ }
-    requires { λ ss. ⌜ (b < BLOCKS) × (lent (frameOf f (now words)) (root .0) ≡ true) × (word < ENTRY) × Ahead (now words) ss ⌝ }
+    requires { λ ss. ⌜ ss ≡ ifChangedL2 (frameOf (edit .f) (now words)) (now words) (edit .root .0) b word ⌝ }
+    requires { λ ss. ⌜ (b < BLOCKS) × (lent (frameOf (edit .f) (now words)) (edit .root .0) ≡ true) × Ahead (now words) ss ⌝ }
     ensures { λ ss r. ⌜ out (r .all) (r .left) (now (words .exit)) ≡ run left ss (now (words .entry)) ⌝ }
 {
-    let at = page_at(f, words, root) + b as usize;
-    put_changed(words, left, at, narrow(word))
+    let at = page_at(edit.f, words, edit.root) + b as usize;
+    put_changed(words, left, at, word)
 }
 
 // The stores of a block that is to have an L1 page.
-pub fn table_stores(
-    edit: Edit,
-    words: &mut [Word],
-    e: Entry,
-    b: u64,
-    new: PageNumber,
-    left: Budget,
-) -> Went
+fn table_stores(edit: Edit, words: &mut [Word], e: Entry, b: u64, new: PageNumber, left: Budget) -> Went
     ghost { List Store }
     requires { λ ss. ⌜ ss ≡ blockStores (frameOf (edit .f) (now words)) (now words) (requestOf (edit .q)) (edit .root .0) wantTable (entryOf e) b (new .0) ⌝ }
     requires { λ ss. ⌜ (b < BLOCKS) × Fair (edit .q) × Good (frameOf (edit .f) (now words)) (now words) (entryOf e) × (lent (frameOf (edit .f) (now words)) (edit .root .0) ≡ true)
         × (needsPage wantTable (entryOf e) ≡ true → (lent (frameOf (edit .f) (now words)) (new .0) ≡ true) × (new .0 < 2 ^ board .infoBits)) × Ahead (now words) ss ⌝ }
     ensures { λ ss r. ⌜ out (r .all) (r .left) (now (words .exit)) ≡ run left ss (now (words .entry)) ⌝ }
 {
-    match e {
-        Entry::Table(t) => own_table(edit, words, t, b, left),
-        Entry::Flat(_) => link_table(edit, words, e, b, new, left),
-        Entry::Pieces(_) => link_table(edit, words, e, b, new, left),
-        Entry::Invalid => link_table(edit, words, e, b, new, left),
+    if let Entry::Table(t) = e {
+        return own_table(edit, words, t, b, left);
     }
+    let page = NewPage { e: e, b: b, page: new };
+    link_table(edit, words, page, left)
 }
 
 // The stores of a block.
-pub fn block_stores(
+fn block_stores(
     edit: Edit,
     words: &mut [Word],
     form: Form,
@@ -102,14 +86,14 @@ pub fn block_stores(
     ensures { λ ss r. ⌜ out (r .all) (r .left) (now (words .exit)) ≡ run left ss (now (words .entry)) ⌝ }
 {
     match form {
-        Form::Flat(p) => put_entry(edit.f, words, edit.root, b, p * TYPE, left),
-        Form::Pieces(info) => put_entry(edit.f, words, edit.root, b, PIECE_ENTRY + info, left),
+        Form::Flat(p) => put_entry(edit, words, b, narrow(p * TYPE), left),
+        Form::Pieces(info) => put_entry(edit, words, b, narrow(PIECE_ENTRY + info), left),
         Form::Table => table_stores(edit, words, e, b, new, left),
     }
 }
 
 // One block: its finished form, and its stores.
-pub fn one_block(
+fn one_block(
     edit: Edit,
     words: &mut [Word],
     gib: Gib,
@@ -138,7 +122,7 @@ pub fn one_block(
 }
 
 // The blocks from b on of a GiB of one permission. Their entries are read only to see whether they change.
-pub fn flat_blocks(
+fn flat_blocks(
     edit: Edit,
     words: &mut [Word],
     gib: Gib,
@@ -163,24 +147,23 @@ pub fn flat_blocks(
     }
 }
 
-// The blocks from b on, n at the most, outside the range and in a GiB that is not of one permission: where a block has no L1 page, its
-// entry alone says its finished form.
-pub fn outside_blocks(
+// The next blocks of a GiB that is not of one permission: those up to the range, or to the end of their GiB, whose entry alone says their
+// finished form, since they have no L1 page; or one.
+fn mixed_blocks(
     edit: Edit,
     words: &mut [Word],
     gib: Gib,
     b: u64,
-    n: u64,
     free: Free,
     next: u64,
     left: Budget,
 ) -> Step
-    requires { ⌜ Rooted (frameOf (edit .f) (now words)) (now words) (edit .root .0) × (b + n ≤ blocks (frameOf (edit .f) (now words))) × Fair (edit .q) × (gib .p < 4) × (next < 2 ^ 32)
-        × Fresh (frameOf (edit .f) (now words)) (now words) (requestOf (edit .q)) (edit .root .0) gib b (headD (drop next (freeList free)) 0)
-        × (gib .one ≡ false) × (1 ≤ n) × (b % gibBlocks + n ≤ gibBlocks) × Lies (requestOf (edit .q)) (b * blockPages) (n * blockPages) Place.Outside
+    requires { ⌜ Rooted (frameOf (edit .f) (now words)) (now words) (edit .root .0) × (b / gibBlocks * gibBlocks + gibBlocks ≤ blocks (frameOf (edit .f) (now words))) × Fair (edit .q) × (gib .p < 4) × (next < 2 ^ 32)
+        × Fresh (frameOf (edit .f) (now words)) (now words) (requestOf (edit .q)) (edit .root .0) gib b (headD (drop next (freeList free)) 0) × (gib .one ≡ false)
         × Ahead (now words) (storesOver (frameOf (edit .f) (now words)) (now words) (requestOf (edit .q)) (edit .root .0) gib (gibBlocks - b % gibBlocks) b (drop next (freeList free))) ⌝ }
     ensures { λ r. ⌜ Did (frameOf (edit .f) (now (words .entry))) (now (words .entry)) (requestOf (edit .q)) (edit .root .0) gib b (freeList free) next left r (now (words .exit)) ⌝ }
 {
+    let n = blocks_outside(edit.q, b);
     let at = page_at(edit.f, words, edit.root) + b as usize;
     let row = pieces_row(words, at, n as usize, left);
     if row.count == 0 {
@@ -195,7 +178,7 @@ pub fn outside_blocks(
     }
 }
 
-// The next blocks: all that are left of a GiB of one permission; those up to the range or to the end of their GiB; or one.
+// The next blocks: all that are left of a GiB of one permission, or as above.
 pub fn next_blocks(
     edit: Edit,
     words: &mut [Word],
@@ -213,9 +196,5 @@ pub fn next_blocks(
     if gib.one {
         return flat_blocks(edit, words, gib, b, free, next, left);
     }
-    let n = blocks_outside(edit.q, b);
-    if n == 0 {
-        return one_block(edit, words, gib, b, free, next, left);
-    }
-    outside_blocks(edit, words, gib, b, n, free, next, left)
+    mixed_blocks(edit, words, gib, b, free, next, left)
 }

@@ -9,7 +9,7 @@ use types::Budget;
 use types::Went;
 use types::Gib;
 use forms::gibs::gib_at;
-use forms::words::page_at;
+use table::lent::page_at;
 use types::Request;
 use types::Free;
 use types::Fence;
@@ -31,7 +31,7 @@ ghost use Rattle.types.specs.Views.{fenceOf, requestOf, freeList};
 ghost use Rattle.table.specs.Board.{frameOf};
 
 // The stores of an edit that no refusal fits, in order, up to the limit. free: the free pages, lowest first.
-pub fn stores(
+fn stores(
     edit: Edit,
     words: &mut [Word],
     free: Free,
@@ -67,7 +67,7 @@ pub fn stores(
 }
 
 // Word at is an entry of the root.
-pub fn in_root(f: Frame, words: &[Word], root: PageNumber, at: usize) -> bool
+fn in_root(f: Frame, words: &[Word], root: PageNumber, at: usize) -> bool
     requires { ⌜ (lent (frameOf f (now words)) (root .0) ≡ true) × (boundsOk (frameOf f (now words)) ≡ true) ⌝ }
     ensures { λ r. ⌜ r ≡ inRoot (frameOf f (now (words .entry))) (root .0) at ⌝ }
 {
@@ -79,7 +79,7 @@ pub fn in_root(f: Frame, words: &[Word], root: PageNumber, at: usize) -> bool
 }
 
 // The fence after count stores, the last to word at, that were all or were cut.
-pub fn fence_of(
+fn fence_of(
     edit: Edit,
     words: &[Word],
     sdid: Sdid,

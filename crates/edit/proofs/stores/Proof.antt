@@ -27,7 +27,7 @@ known : (c : tie.After-struct-known Inv-loop μ-loop) → let a = c .before .bef
 known c = let s = c .before .before in facts (s .args .edit .f) (s .args .words .now) (requestOf (s .args .edit .q)) (s .args .edit .root .0) (freeList (s .args .free)) (s .pre)
 
 fair : {f : code.Frame} {m : List ℕ} {q : code′.Request} {root : ℕ} {free : List ℕ} → Facts f m (requestOf q) root free → Fair q
-fair k = record { small = k .low; ends = k .ends }
+fair k = record { small = k .low; starts = k .starts; whole = k .whole; some = k .some; ends = omega (arith, k .ends) }
 
 add-end : tie.Need-add-end Inv-loop μ-loop
 add-end c = let k = known c in record { fits = omega (arith, k .ends) }

@@ -15,25 +15,17 @@ use Rattle.model.specs.Stores.{Store}
 use borrow.Author.Needs.{needs}
 use Rattle.edit.proofs.block.flat_blocks.Statement.{statement}
 use Rattle.edit.proofs.block.flat_blocks.Tie as tie
-use Rattle.edit.proofs.block.flat_blocks.Reads as reads
-use Rattle.edit.proofs.block.flat_blocks.Lts as lts
-use Rattle.entries.proofs.rows.flat_entries.Reads as flat-entries-reads
-use Rattle.forms.proofs.words.page_at.Reads as page-at-reads
 use Rattle.table.specs.Board.{frameOf, TYPEUNIT}
 
--- src/block.rt:194:13
 sub-n : tie.Need-sub-n
 sub-n c = search needs
 
--- src/block.rt:195:14
 page-at-requires : tie.Need-page-at-requires
 page-at-requires c κs = search needs
 
--- src/block.rt:195:14
 add-at : tie.Need-add-at
 add-at c = search needs
 
--- src/block.rt:196:48
 mul-narrow : tie.Need-mul-narrow
 mul-narrow c = search needs
 
@@ -54,7 +46,6 @@ row-here w =
     ap₂ (λ (x k : ℕ). rowStores m (λ y. x) n k) (w .narrow .ensures) (place F (a .edit .root .0) (a .b) _ (p .page-at .ensures .0))
     ∙ sym (row-stores F m (requestOf (a .edit .q)) (a .edit .root .0) (a .gib) (λ y. a .gib .p * TYPEUNIT) n (a .b) (drop (a .next) (freeList (a .free))) (λ x lo hi. flat-entry (a .edit .f) m (requestOf (a .edit .q)) (a .edit .root .0) (a .gib) (s .pre .3) x))
 
--- src/block.rt:196:9
 flat-entries-requires : tie.Need-flat-entries-requires
 flat-entries-requires c κs =
     let s = c .before .before .before .before .before .before in
@@ -64,11 +55,9 @@ flat-entries-requires c κs =
     let next : Ahead m (rowStores m (λ w. c .narrow .result) n (c .before .before .before .page-at .result + a .b)) = ahead-of (sym (row-here c)) (s .pre .4) in
     search needs
 
--- src/block.rt:180:1
 same-length : tie.Need-same-length
 same-length c = search needs
 
--- src/block.rt:180:1
 returns : tie.Need-returns
 returns c =
     let s = c .before .before .before .before .before .before .before .before .before .before in

@@ -22,30 +22,27 @@ page-at-requires c κs = search needs
 add-at : tie.Need-add-at
 add-at c = search needs
 
-narrow-requires : tie.Need-narrow-requires
-narrow-requires c κs = search needs
-
 same-length : tie.Need-same-length
 same-length c = search needs
 
 -- the store that the code makes, if any
-entry-store : (n : tie.After-narrow) → let p = n .before .before in let a = p .before .before .before .args in
-    (if eqb (getD (a .words .now) (p .page-at .result + a .b) 0) (n .narrow .result) then [] else storeOf (p .page-at .result + a .b) (n .narrow .result) ∷ [])
-    ≡ ifChangedL2 (frameOf (a .f) (a .words .now)) (a .words .now) (a .root .0) (a .b) (a .word)
-entry-store n =
-    let p = n .before .before in
+entry-store : (p : tie.After-page-at) → let a = p .before .before .before .args in
+    (if eqb (getD (a .words .now) (p .page-at .result + a .b) 0) (a .word) then [] else storeOf (p .page-at .result + a .b) (a .word) ∷ [])
+    ≡ ifChangedL2 (frameOf (a .edit .f) (a .words .now)) (a .words .now) (a .edit .root .0) (a .b) (a .word)
+entry-store p =
     let a = p .before .before .before .args in
-    let F = frameOf (a .f) (a .words .now) in
-    changed-l2 F (a .words .now) (a .root .0) (a .b) _ _ (place F (a .root .0) (a .b) _ (p .page-at .ensures .0)) ∙ ap (ifChangedL2 F (a .words .now) (a .root .0) (a .b)) (n .narrow .ensures)
+    let F = frameOf (a .edit .f) (a .words .now) in
+    changed-l2 F (a .words .now) (a .edit .root .0) (a .b) _ _ (place F (a .edit .root .0) (a .b) _ (p .page-at .ensures .0))
 
 put-changed-requires : tie.Need-put-changed-requires
-put-changed-requires c κs = (search needs, ahead-of (sym (entry-store c)) (c .before .before .before .before .before .pre .3))
+put-changed-requires c κs = (search needs, ahead-of (sym (entry-store (c .before))) (c .before .before .before .before .pre .2))
 
 returns : tie.Need-returns
 returns c =
-    let a = c .before .before .before .before .before .before .before .before .args in
-    c .before .before .put-changed .ensures ∙ ap (λ (ss : List Store). run (a .left) ss (a .words .now)) (entry-store (c .before .before .before))
+    let p = c .before .before .before .before in
+    let a = p .before .before .before .args in
+    c .before .before .put-changed .ensures ∙ ap (λ (ss : List Store). run (a .left) ss (a .words .now)) (entry-store p)
 
 pub put-entry-spec : {M : Type 1} → statement M
 put-entry-spec =
-    tie.close (tie.spec page-at-requires add-at narrow-requires put-changed-requires same-length returns)
+    tie.close (tie.spec page-at-requires add-at put-changed-requires same-length returns)

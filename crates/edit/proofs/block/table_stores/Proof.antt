@@ -1,12 +1,49 @@
-use mathlib.Core.Path.{_≡_, refl, sym, ap, _∙_, subst}
-use mathlib.Core.Bool.{Bool, true}
+-- `edit::block::table_stores` meets its contract: a block that has an L1 page keeps it, and any other gets a new one.
+use mathlib.Core.Path.{_≡_, refl, sym, ap, _∙_}
+use mathlib.Core.Bool.{true}
+use mathlib.Core.List.{List, [], _∷_}
+use mathlib.Core.Logic.{inl, inr}
+use Prim.Native.Nat.{ℕ}
+use native.Mathlib.Omega.{arith}
+use denote.Enum.Declared.{tagOf}
+use types.Run.{OneOf}
 use borrow.Author.Needs.{needs}
 use Rattle.entries.specs.Pages.{Plain}
-use Rattle.model.specs.Forms.{wantTable}
-use Rattle.model.specs.Stores.{needsPage, blockStores}
-use Rattle.types.specs.Views.{entryOf}
+use Rattle.entries.specs.Run.{run}
+use Rattle.entries.proofs.Order.{ahead-of}
+use Rattle.model.specs.Entry as entry
+use Rattle.model.specs.Forms.{Request, wantTable}
+use Rattle.model.specs.Frame.{Frame}
+use Rattle.model.specs.Stores.{Store, needsPage, blockStores, linkTable}
+use Rattle.table.specs.Board.{frameOf}
+use Rattle.types.specs.Views.{entryOf, requestOf}
+use Rattle.types.specs.declared.Entry.{Entry}
+use Rattle.types.specs.declared.Entry.the-variants.{Flat, Pieces, Table, Invalid}
+use Rattle.types.proofs.Entry as declared
 use Rattle.edit.proofs.block.table_stores.Statement.{statement}
 use Rattle.edit.proofs.block.table_stores.Tie as tie
+
+-- what is no `Entry::Table` names no page
+plain-of : (e : Entry) → OneOf (0 ∷ 1 ∷ 3 ∷ []) (tagOf declared.the-type e) → Plain (entryOf e)
+plain-of (Flat p) h = tt
+plain-of (Pieces i) h = tt
+plain-of (Table t) h = elim h [ inl z ↦ omega (arith, z) | inr k ↦ elim k [ inl z ↦ omega (arith, z) | inr z ↦ omega (arith, z) ] ]
+plain-of Invalid h = tt
+
+-- so it needs one, and its stores are those that fill and link it
+plain-needs : (e : entry.Entry) → Plain e → needsPage wantTable e ≡ true
+unfolding needsPage
+plain-needs (entry.flat p) h = refl
+plain-needs (entry.pieces i) h = refl
+plain-needs (entry.table t) h = absurd h
+plain-needs entry.invalid h = refl
+
+plain-stores : (F : Frame) (m : List ℕ) (q : Request) (root : ℕ) (e : entry.Entry) (b new : ℕ) → Plain e → blockStores F m q root wantTable e b new ≡ linkTable F m q root e b new
+unfolding blockStores
+plain-stores F m q root (entry.flat p) b new h = refl
+plain-stores F m q root (entry.pieces i) b new h = refl
+plain-stores F m q root (entry.table t) b new h = absurd h
+plain-stores F m q root entry.invalid b new h = refl
 
 enum-known-e : tie.Need-enum-known-e
 enum-known-e c = search needs
@@ -17,39 +54,6 @@ own-table-requires c κs =
     let s = c .before .before .before .before .before in
     (s .pre .0, s .pre .1, rw (c .before .before .e .given .1) at (s .pre .2), rw (c .before .before .e .given .1) at (s .pre .5))
 
-enum-told : tie.Need-enum-told
-enum-told c = search needs
-
-link-table-requires : tie.Need-link-table-requires
-unfolding needsPage blockStores
-link-table-requires c κs =
-    let s = c .before .before .before .before in
-    let told = c .before .enum-told .given .1 in
-    let need : needsPage wantTable (entryOf (s .args .e)) ≡ true = rw told in
-    (s .pre .0, s .pre .1, s .pre .2, s .pre .4 need .0, rw told tt, s .pre .3, s .pre .4 need .1, rw told (rw told at (s .pre .5)))
-
-enum-told-2 : tie.Need-enum-told-2
-enum-told-2 c = search needs
-
-link-table-requires-2 : tie.Need-link-table-requires-2
-unfolding needsPage blockStores
-link-table-requires-2 c κs =
-    let s = c .before .before .before .before in
-    let told = c .before .enum-told2 .given .1 in
-    let need : needsPage wantTable (entryOf (s .args .e)) ≡ true = rw told in
-    (s .pre .0, s .pre .1, s .pre .2, s .pre .4 need .0, rw told tt, s .pre .3, s .pre .4 need .1, rw told (rw told at (s .pre .5)))
-
-enum-told-3 : tie.Need-enum-told-3
-enum-told-3 c = search needs
-
-link-table-requires-3 : tie.Need-link-table-requires-3
-unfolding needsPage blockStores
-link-table-requires-3 c κs =
-    let s = c .before .before .before .before in
-    let told = c .before .enum-told3 .given .1 in
-    let need : needsPage wantTable (entryOf (s .args .e)) ≡ true = rw told in
-    (s .pre .0, s .pre .1, s .pre .2, s .pre .4 need .0, rw told tt, s .pre .3, s .pre .4 need .1, rw told (rw told at (s .pre .5)))
-
 same-length : tie.Need-same-length
 same-length c = search needs
 
@@ -57,47 +61,30 @@ returns : tie.Need-returns
 unfolding blockStores
 returns c = rw (c .before .before .before .before .before .e .given .1) (c .before .before .own-table .ensures)
 
+plain-here : (c : tie.At-match-keys2) → Plain (entryOf (c .before .before .args .e))
+plain-here c = plain-of (c .before .before .args .e) (c .match .keys2)
+
+link-table-requires : tie.Need-link-table-requires
+link-table-requires c κs =
+    let s = c .before .before .before in
+    let a = s .args in
+    let plain = plain-here (c .before) in
+    let new = s .pre .4 (plain-needs (entryOf (a .e)) plain) in
+    (s .pre .0, s .pre .1, s .pre .2, new .0, plain, s .pre .3, new .1,
+      ahead-of (plain-stores (frameOf (a .edit .f) (a .words .now)) (a .words .now) (requestOf (a .edit .q)) (a .edit .root .0) (entryOf (a .e)) (a .b) (a .new .0) plain) (s .pre .5))
+
 same-length-2 : tie.Need-same-length-2
 same-length-2 c = search needs
 
 returns-2 : tie.Need-returns-2
-unfolding blockStores
 returns-2 c =
-    rw (c .before .before .before .before .enum-told .given .1) (rw (c .before .before .before .before .enum-told .given .1) at (c .before .before .link-table .ensures))
-
-same-length-3 : tie.Need-same-length-3
-same-length-3 c = search needs
-
-returns-3 : tie.Need-returns-3
-unfolding blockStores
-returns-3 c =
-    rw (c .before .before .before .before .enum-told2 .given .1) (rw (c .before .before .before .before .enum-told2 .given .1) at (c .before .before .link-table2 .ensures))
-
-same-length-4 : tie.Need-same-length-4
-same-length-4 c = search needs
-
-returns-4 : tie.Need-returns-4
-unfolding blockStores
-returns-4 c =
-    rw (c .before .before .before .before .enum-told3 .given .1) (rw (c .before .before .before .before .enum-told3 .given .1) at (c .before .before .link-table3 .ensures))
+    let k = c .before .before .before .before in
+    let a = k .before .before .args in
+    c .before .before .link-table .ensures
+    ∙ ap (λ (ss : List Store). run (a .left) ss (a .words .now))
+    (sym (plain-stores (frameOf (a .edit .f) (a .words .now)) (a .words .now) (requestOf (a .edit .q)) (a .edit .root .0) (entryOf (a .e)) (a .b) (a .new .0) (plain-here k)))
 
 pub table-stores-spec : {M : Type 1} → statement M
 table-stores-spec =
     tie.close
-    (tie.spec
-    enum-known-e
-    own-table-requires
-    enum-told
-    link-table-requires
-    enum-told-2
-    link-table-requires-2
-    enum-told-3
-    link-table-requires-3
-    same-length
-    returns
-    same-length-2
-    returns-2
-    same-length-3
-    returns-3
-    same-length-4
-    returns-4)
+    (tie.spec enum-known-e own-table-requires same-length returns link-table-requires same-length-2 returns-2)

@@ -3,15 +3,12 @@ use borrow.Author.Needs.{needs}
 use Rattle.entries.proofs.fresh.near_end.Statement.{statement}
 use Rattle.entries.proofs.fresh.near_end.Tie as tie
 
--- src/pages.rt:214:9
 past-entry-requires : tie.Need-past-entry-requires
 past-entry-requires c κs = search needs
 
--- src/pages.rt:216:9
 returns : tie.Need-returns
 returns c = (omega arith, omega (arith, c .before .before .pre .1), λ k lo hi. c .before .past-entry .ensures .1 k (omega arith) (omega arith))
 
--- src/pages.rt:210:1
 returns-2 : tie.Need-returns-2
 returns-2 c = search needs
 

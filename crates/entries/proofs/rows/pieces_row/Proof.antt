@@ -16,39 +16,30 @@ Inv-loop words₀ at n more₀ i₀ words more i =
 abbrev μ-loop : tie.MeasureT-loop
 μ-loop words₀ at n more₀ i₀ words more i = n - i
 
--- src/rows.rt:53:5
 loop-holds : tie.Need-loop-holds Inv-loop μ-loop
 loop-holds c = (omega arith, row-start _ _ _ _, λ k lo hi. absurd (omega arith))
 
--- src/rows.rt:54:38
 add-pieces-word : tie.Need-add-pieces-word Inv-loop μ-loop
 add-pieces-word c = let l = c .before in omega (arith, l .before .before .pre .0, l .loop .inv .1 .size)
 
--- src/rows.rt:54:32
 mul-pieces-word : tie.Need-mul-pieces-word Inv-loop μ-loop
 mul-pieces-word c = let l = c .before in omega (arith, l .before .before .pre .0, l .loop .inv .1 .size)
 
--- src/rows.rt:54:32
 slice-read-pieces-word : tie.Need-slice-read-pieces-word Inv-loop μ-loop
 slice-read-pieces-word c = let l = c .before .before in omega (arith, l .before .before .pre .0, l .loop .inv .1 .size)
 
--- src/rows.rt:54:13
 pieces-word-requires : tie.Need-pieces-word-requires Inv-loop μ-loop
 pieces-word-requires c κs = tt
 
--- src/rows.rt:56:13
 same-length : tie.Need-same-length Inv-loop μ-loop
 same-length c = c .before .before .before .before .loop .inv .1 .size
 
--- src/rows.rt:56:13
 returns : tie.Need-returns Inv-loop μ-loop
 returns c = let l = c .before .before .before .before in (l .loop .inv .0, l .loop .inv .2, l .loop .inv .1 .done)
 
--- src/rows.rt:62:45
 add-put-changed : tie.Need-add-put-changed Inv-loop μ-loop
 add-put-changed c = let l = c .before .before .before .before .before in omega (arith, l .before .before .pre .0, l .loop .inv .1 .size)
 
--- src/rows.rt:62:13
 put-changed-requires : tie.Need-put-changed-requires Inv-loop μ-loop
 put-changed-requires c κs =
     let l = c .before .before .before .before .before in
@@ -61,15 +52,12 @@ put-changed-requires c κs =
           (one-more (λ k. piecesWord (getD (s .args .words .now) k 0) ≡ 0 → ⊥) _ _ (l .loop .inv .2) (λ z. c .before .if1 .left (w .ensures ∙ ap piecesWord (l .loop .inv .1 .ahead _ (omega arith)) ∙ z)))),
     )
 
--- src/rows.rt:68:24
 add-t17 : tie.Need-add-t17 Inv-loop μ-loop
 add-t17 c = let l = c .before .before .before .before .before .before .before .before .before .before .before in omega (arith, l .loop .inv .0, c .before .before .before .before .before .before .before .before .before .before .loop-test .taken)
 
--- src/rows.rt:65:13
 same-length-2 : tie.Need-same-length-2 Inv-loop μ-loop
 same-length-2 c = c .before .before .before .before .before .put-changed .kept .0 ∙ c .before .before .before .before .before .before .before .before .before .before .before .loop .inv .1 .size
 
--- src/rows.rt:65:13
 returns-2 : tie.Need-returns-2 Inv-loop μ-loop
 returns-2 c =
     let l = c .before .before .before .before .before .before .before .before .before .before .before in
@@ -81,15 +69,12 @@ returns-2 c =
           ∙ row-said _ _ _ _ (l .loop .words) (l .loop .more) (l .loop .i) (l .loop .inv .1) _ (w .ensures) _ (r .ensures),
     )
 
--- src/rows.rt:53:9
 add-i : tie.Need-add-i Inv-loop μ-loop
 add-i c = omega (arith, c .before .before .before .before .before .before .before .before .before .before .loop-test .taken)
 
--- src/rows.rt:53:5
 loop-less : tie.Need-loop-less Inv-loop μ-loop
 loop-less c = omega (arith, c .before .before .before .before .before .before .before .before .before .before .loop-test .taken)
 
--- src/rows.rt:53:5
 loop-again : tie.Need-loop-again Inv-loop μ-loop
 loop-again c =
     let l = c .before .before .before .before .before .before .before .before .before .before .before in
@@ -101,11 +86,9 @@ loop-again c =
       one-more (λ k. piecesWord (getD (l .before .before .args .words .now) k 0) ≡ 0 → ⊥) _ _ (l .loop .inv .2) (λ z. c .before .before .before .before .before .before .before .if1 .left (w .ensures ∙ ap piecesWord (l .loop .inv .1 .ahead _ (omega arith)) ∙ z)),
     )
 
--- src/rows.rt:47:1
 same-length-3 : tie.Need-same-length-3 Inv-loop μ-loop
 same-length-3 c = c .before .loop .inv .1 .size
 
--- src/rows.rt:47:1
 returns-3 : tie.Need-returns-3 Inv-loop μ-loop
 returns-3 c =
     let l = c .before in

@@ -10,16 +10,10 @@ use Rattle.types.specs.Views.{entryOf, requestOf}
 use borrow.Author.Needs.{needs}
 use Rattle.forms.proofs.blocks.cut_form.Statement.{statement}
 use Rattle.forms.proofs.blocks.cut_form.Tie as tie
-use Rattle.forms.proofs.blocks.cut_form.Reads as reads
-use Rattle.forms.proofs.blocks.cut_form.Lts as lts
-use Rattle.forms.proofs.blocks.piece_is_one.Reads as piece-is-one-reads
-use Rattle.forms.proofs.blocks.pieces_form.Reads as pieces-form-reads
 
--- src/blocks.rt:54:9
 piece-is-one-requires : tie.Need-piece-is-one-requires
 piece-is-one-requires c κs = search needs
 
--- src/blocks.rt:55:9
 returns : tie.Need-returns
 returns c = let s = c .before .before .before .before in
     let a = s .args in
@@ -27,15 +21,12 @@ returns c = let s = c .before .before .before .before in
     (every-fail (isOne (frameOf (a .edit .f) (a .words .now)) (a .words .now) (requestOf (a .edit .q)) (entryOf (a .e)) (a .b)) PIECES (a .edit .q .start .0 / PIECEBYTES % PIECES) (omega arith)
     (sym (c .before .piece-is-one .ensures) ∙ not-true _ (c .if1 .taken)))
 
--- src/blocks.rt:57:42
 add-piece-is-one : tie.Need-add-piece-is-one
 add-piece-is-one c = search needs
 
--- src/blocks.rt:57:9
 piece-is-one-requires-2 : tie.Need-piece-is-one-requires-2
 piece-is-one-requires-2 c κs = search needs
 
--- src/blocks.rt:58:9
 returns-2 : tie.Need-returns-2
 returns-2 c = let s = c .before .before .before .before .before .before .before in
     let a = s .args in
@@ -43,11 +34,9 @@ returns-2 c = let s = c .before .before .before .before .before .before .before 
     (every-fail (isOne (frameOf (a .edit .f) (a .words .now)) (a .words .now) (requestOf (a .edit .q)) (entryOf (a .e)) (a .b)) PIECES ((a .edit .q .start .0 + a .edit .q .size) / PIECEBYTES % PIECES) (omega arith)
     (sym (c .before .piece-is-one2 .ensures) ∙ not-true _ (c .if2 .taken)))
 
--- src/blocks.rt:60:5
 pieces-form-requires : tie.Need-pieces-form-requires
 pieces-form-requires c κs = search needs
 
--- src/blocks.rt:50:1
 returns-3 : tie.Need-returns-3
 returns-3 c = search needs
 

@@ -6,15 +6,10 @@ use borrow.Author.Needs.{needs}
 use Rattle.table.specs.Board.{PIECE, frameOf}
 use Rattle.forms.proofs.blocks.piece_is_one.Statement.{statement}
 use Rattle.forms.proofs.blocks.piece_is_one.Tie as tie
-use Rattle.forms.proofs.blocks.piece_is_one.Reads as reads
-use Rattle.forms.proofs.blocks.piece_is_one.Lts as lts
-use Rattle.forms.proofs.pieces.piece_at.Reads as piece-at-reads
 
--- src/blocks.rt:45:9
 piece-at-requires : tie.Need-piece-at-requires
 piece-at-requires c κs = search needs
 
--- src/blocks.rt:40:1
 returns : tie.Need-returns
 returns c = let a = c .before .before .args in
     c .piece-at .ensures .1

@@ -11,10 +11,6 @@ use Rattle.model.specs.Walk.{entryAt}
 use borrow.Author.Needs.{needs}
 use Rattle.forms.proofs.gibs.new_page.Statement.{statement}
 use Rattle.forms.proofs.gibs.new_page.Tie as tie
-use Rattle.forms.proofs.gibs.new_page.Reads as reads
-use Rattle.forms.proofs.gibs.new_page.Lts as lts
-use Rattle.forms.proofs.gibs.read_page.Reads as read-page-reads
-use Rattle.types.proofs.pages.lies.Reads as lies-reads
 
 mul-lies : tie.Need-mul-lies
 mul-lies c = search needs

@@ -13,11 +13,6 @@ use Rattle.theory.specs.Rooted.{Good}
 use borrow.Author.Needs.{needs}
 use Rattle.forms.proofs.gibs.read_page.Statement.{statement}
 use Rattle.forms.proofs.gibs.read_page.Tie as tie
-use Rattle.forms.proofs.gibs.read_page.Reads as reads
-use Rattle.forms.proofs.gibs.read_page.Lts as lts
-use Rattle.forms.proofs.blocks.block_form.Reads as block-form-reads
-use Rattle.table.proofs.root.entry_at.Reads as entry-at-reads
-use Rattle.types.proofs.blocks.needs_page.Reads as needs-page-reads
 
 need-here : (c : tie.After-needs-page2) → let a = c .before .before .before .before .before .before .args in
     c .needs-page2 .result ≡ needsPage (model.formIn (frameOf (a .edit .f) (a .words .now)) (a .words .now) (requestOf (a .edit .q)) false 0 (walk.entryAt (frameOf (a .edit .f) (a .words .now)) (a .words .now) (a .edit .root .0) (a .b)) (a .b)) (walk.entryAt (frameOf (a .edit .f) (a .words .now)) (a .words .now) (a .edit .root .0) (a .b))
@@ -28,20 +23,16 @@ need-here c =
     ∙ ap₂ (λ (x : model.Form) (e : Entry). needsPage x e)
     (c .before .block-form .ensures ∙ ap (λ (e : Entry). model.formIn (frameOf (a .edit .f) (a .words .now)) (a .words .now) (requestOf (a .edit .q)) false 0 e (a .b)) ea) ea
 
--- src/gibs.rt:86:9
 entry-at-requires : tie.Need-entry-at-requires
 entry-at-requires c κs = search needs
 
--- src/gibs.rt:87:9
 needs-page-requires : tie.Need-needs-page-requires
 needs-page-requires c κs = search needs
 
--- src/gibs.rt:88:9
 returns : tie.Need-returns
 returns c = let ea = c .before .before .entry-at .ensures .0 in
     rw (table-none _ (model.formIn _ _ _ false 0 _ _) (ap (needsPage model.wantTable) (sym ea) ∙ sym (c .before .needs-page .ensures) ∙ not-true _ (c .if1 .taken)))
 
--- src/gibs.rt:90:19
 block-form-requires : tie.Need-block-form-requires
 block-form-requires c κs = let s = c .before .before .before .before in (
   omega (arith, s .pre .0 .few, s .pre .1),
@@ -49,15 +40,12 @@ block-form-requires c κs = let s = c .before .before .before .before in (
   subst (Good (frameOf (s .args .edit .f) (s .args .words .now)) (s .args .words .now)) (sym (c .before .before .entry-at .ensures .0)) (s .pre .0 .good (s .args .b) (s .pre .1)),
 )
 
--- src/gibs.rt:90:8
 needs-page-requires-2 : tie.Need-needs-page-requires-2
 needs-page-requires-2 c κs = search needs
 
--- src/gibs.rt:91:9
 returns-2 : tie.Need-returns-2
 returns-2 c = rw (sym (need-here (c .before)) ∙ c .if2 .taken)
 
--- src/gibs.rt:80:1
 returns-3 : tie.Need-returns-3
 returns-3 c = rw (sym (need-here (c .before)) ∙ c .if2 .left)
 

@@ -9,19 +9,13 @@ use Rattle.types.specs.Views.{entryOf, requestOf}
 use borrow.Author.Needs.{needs}
 use Rattle.forms.proofs.pieces.old_first.Statement.{statement}
 use Rattle.forms.proofs.pieces.old_first.Tie as tie
-use Rattle.forms.proofs.pieces.old_first.Reads as reads
-use Rattle.forms.proofs.pieces.old_first.Lts as lts
-use Rattle.forms.proofs.words.old_word.Reads as old-word-reads
 
--- src/pieces.rt:104:27
 mul-old-word : tie.Need-mul-old-word
 mul-old-word c = search needs
 
--- src/pieces.rt:104:5
 old-word-requires : tie.Need-old-word-requires
 old-word-requires c κs = search needs
 
--- src/pieces.rt:100:1
 returns : tie.Need-returns
 returns c = let a = c .before .before .args in
     let pre = c .before .before .pre in
