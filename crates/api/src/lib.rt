@@ -11,13 +11,14 @@ use crate::code::what;
 use crate::code::who;
 use monitor::Outcome;
 use types::Address;
+use types::Admission;
 use types::Frame;
 use types::Kind;
 use types::PageNumber;
 use types::Permission;
 use types::Privilege;
 use types::Sdid;
-use table::lent;
+use types::number::of_refusal;
 use table::board::Word;
 use table::board::wide;
 ghost use mathlib.Core.Path.{_≡_};
@@ -100,15 +101,12 @@ pub extern "C" fn mpt_sound(paw: u64, first: u64, words: &[Word], slots: &[Word;
         paw: paw,
         first: PageNumber(first),
     };
-    if !lent::frame_ok(f, words) {
-        return 1;
-    }
     let kept = *slots;
-    let checked = sound::check(f, words, kept);
-    if !checked.sound {
-        return 3;
+    let mut used = sound::no_pages();
+    match sound::admit(f, words, kept, &mut used) {
+        Admission::Refused(why) => of_refusal(why),
+        Admission::Granted => 0,
     }
-    0
 }
 
 #[no_mangle]

@@ -1,5 +1,5 @@
 -- What an edit leaves, by the tests in their order: each law assumes that the tests before it were passed.
-use mathlib.Core.Path.{_≡_}
+use mathlib.Core.Path.{_≡_, refl}
 use mathlib.Core.Bool.{Bool, true, false, not, _&&_}
 use mathlib.Core.List.{List}
 use Prim.Native.Nat.{ℕ, _*_}
@@ -19,6 +19,11 @@ use Rattle.slots.specs.Named.{notOpen}
 use Rattle.slots.specs.Outcomes.{outcomeOf}
 use Rattle.slots.specs.declared.Outcome as code
 use Rattle.types.specs.declared.Reply.the-variants.{Edited}
+use Rattle.types.specs.declared.Admission.the-variants.{Refused}
+use Rattle.types.specs.declared.Refusal.{Refusal}
+use Rattle.types.specs.Views.{refusalNumber}
+use Rattle.scan.specs.Admission.{admissionOf}
+use Rattle.scan.proofs.Admissions.{not-admitted}
 
 module _ (F : Frame) (m : List ℕ) (slots : List Slot) (q : Request) where
   -- the whole edit needs more new pages than are free
@@ -26,15 +31,11 @@ module _ (F : Frame) (m : List ℕ) (slots : List Slot) (q : Request) where
   noRoom = ltb (length (freePages F m (roots F slots))) (newPages F m (rootOf F slots q) (firstGib q * gibBlocks) (forms F m q (rootOf F slots q)))
 
   module _ (limit : ℕ) where
-    pub edit-frame : frameOk F m ≡ false → editSlot F m slots q limit ≡ refuse F m slots 1
-    unfolding editSlot editWith editRefusalWith firstMet
-    edit-frame h = rw h
+    pub edit-not-admitted : (r : Refusal) → Refused r ≡ admissionOf F m slots → editSlot F m slots q limit ≡ refuse F m slots (refusalNumber r)
+    unfolding editSlot editWith editRefusalWith
+    edit-not-admitted r h = not-admitted F m slots r _ _ _ h refl
 
     module _ (one : frameOk F m ≡ true) where
-      pub edit-unsound : sound F m slots ≡ false → editSlot F m slots q limit ≡ refuse F m slots 3
-      unfolding editSlot editWith editRefusalWith firstMet
-      edit-unsound h = rw (one, h)
-
       module _ (three : sound F m slots ≡ true) where
         pub edit-slot : notOpen slots (q .slot) ≡ true → editSlot F m slots q limit ≡ refuse F m slots 4
         unfolding editSlot editWith editRefusalWith firstMet

@@ -11,14 +11,16 @@ pub use slots::close;
 use slots::named::not_open;
 pub use slots::open;
 use slots::refused;
-use sound::check;
+use sound::admit;
+use sound::no_pages;
 use sound::pick::free_pages;
 use types::Address;
+use types::Admission;
+use types::Edit;
 use types::Frame;
 use types::Permission;
 use types::Refusal;
 pub use types::Reply;
-use table::lent;
 use table::register;
 use types::rights;
 use table::board::Word;
@@ -51,11 +53,16 @@ fn edit_open(
     let at = q.slot as usize;
     let register = slots[at];
     let root = register::ppn(register);
-    if free.count < new_pages(f, words, q, root) {
+    let edit = Edit {
+        f: f,
+        q: q,
+        root: root,
+    };
+    if free.count < new_pages(edit, words) {
         return refused(Refusal::NoRoom, slots);
     }
     let sdid = register::sdid(register);
-    let made = make(f, words, q, root, sdid, free, limit);
+    let made = make(edit, words, sdid, free, limit);
     let fence = made.fence;
     Outcome {
         reply: Reply::Edited(made.count, made.all),
@@ -78,21 +85,20 @@ pub fn edit(
     ensures { λ r. ⌜ outcomeOf r (now (words .exit))
         ≡ calls.editSlot (frameOf f (now (words .entry))) (now (words .entry)) slots (asked slot (start .0) length (permissionNumber permission)) limit ⌝ }
 {
-    if !lent::frame_ok(f, words) {
-        return refused(Refusal::Frame, slots);
+    let mut used = no_pages();
+    match admit(f, words, slots, &mut used) {
+        Admission::Refused(why) => refused(why, slots),
+        Admission::Granted => {
+            if not_open(slots, slot) {
+                return refused(Refusal::Slot, slots);
+            }
+            let q = Request {
+                slot: slot,
+                start: start,
+                size: length,
+                permission: rights::bits(permission),
+            };
+            edit_open(f, words, slots, q, &used, limit)
+        }
     }
-    let checked = check(f, words, slots);
-    if !checked.sound {
-        return refused(Refusal::NotSound, slots);
-    }
-    if not_open(slots, slot) {
-        return refused(Refusal::Slot, slots);
-    }
-    let q = Request {
-        slot: slot,
-        start: start,
-        size: length,
-        permission: rights::bits(permission),
-    };
-    edit_open(f, words, slots, q, &checked.used, limit)
 }

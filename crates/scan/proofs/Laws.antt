@@ -1,4 +1,4 @@
--- What callers use: free pages are lent; what the check says; its marks give the free pages.
+-- What callers use: free pages are lent; the marks of a sound table give the free pages.
 use mathlib.Core.Path.{_≡_, refl, sym, ap, ap₂, _∙_}
 use mathlib.Core.Bool.{Bool, true, false, _&&_, true≢false}
 use mathlib.Core.List.{List, [], _∷_, headD, tail}
@@ -12,7 +12,7 @@ use Rattle.model.specs.Frame.{Frame, lent}
 use Rattle.model.specs.Sound.{Slot, roots, used, soundSlots, soundTable, sound, freeOf, freePages}
 use Rattle.laws.proofs.Choices.{and-true}
 use Rattle.laws.proofs.Lists.{each-step, each-append, joined-cong}
-use Rattle.scan.specs.Scan.{marksOf, refusedCheck, checkedOf}
+use Rattle.scan.specs.Scan.{marksOf}
 use Rattle.scan.specs.Free.{clearPages}
 use Rattle.scan.proofs.Pages.{used-lent, marked-member}
 
@@ -48,40 +48,22 @@ unfolding each
 tail-lent F [] h = refl
 tail-lent F (page ∷ pages) h = and-true (lent F page) (each (lent F) pages) (sym (each-step (lent F) page pages) ∙ h) .1
 
--- ---- what the check says
+-- ---- the marks of a sound table
 
-module _ (F : Frame) (m : List ℕ) (slots : List Slot) where
-  pub says-sound : checkedOf F m slots .sound ≡ sound F m slots
-  unfolding checkedOf refusedCheck
-  says-sound = go (sound F m slots)
-    where
-      go : (b : Bool) → (if b then record { sound = true; used = marksOf F (used F m (roots F slots)) } else refusedCheck) .sound ≡ b
-      go true = refl
-      go false = refl
+module _ (F : Frame) (m : List ℕ) (slots : List Slot) (ok : sound F m slots ≡ true) (few : F .pages ≤ 256) where
+  all-lent : each (lent F) (used F m (roots F slots)) ≡ true
+  unfolding sound soundTable
+  all-lent = used-lent F m (roots F slots) (and-true _ _ (and-true (soundSlots F slots) _ ok .1) .0)
 
-  module _ (ok : sound F m slots ≡ true) where
-    pub says-used : checkedOf F m slots .used ≡ marksOf F (used F m (roots F slots))
-    unfolding checkedOf
-    says-used = ap (λ (b : Bool). (if b then record { sound = true; used = marksOf F (used F m (roots F slots)) } else refusedCheck) .used) ok
+  -- a lent page of a sound table is marked exactly when it is in use
+  pub marked-exactly-in-use : (page : ℕ) → lent F page ≡ true
+      → getD (marksOf F (used F m (roots F slots))) (page - F .first) false ≡ member page (used F m (roots F slots))
+  marked-exactly-in-use page h = marked-member F few page h (used F m (roots F slots)) all-lent
 
-    all-lent : each (lent F) (used F m (roots F slots)) ≡ true
-    unfolding sound soundTable
-    all-lent = used-lent F m (roots F slots) (and-true _ _ (and-true (soundSlots F slots) _ ok .1) .0)
-
-    module _ (few : F .pages ≤ 256) where
-      -- a lent page of a sound table is marked exactly when it is in use
-      pub marked-exactly-in-use : (page : ℕ) → lent F page ≡ true
-          → getD (marksOf F (used F m (roots F slots))) (page - F .first) false ≡ member page (used F m (roots F slots))
-      marked-exactly-in-use page h = marked-member F few page h (used F m (roots F slots)) all-lent
-
-      -- the lent pages that are not marked are the free pages
-      pub clear-is-free : clearPages F (marksOf F (used F m (roots F slots))) ≡ freePages F m (roots F slots)
-      unfolding clearPages freePages freeOf
-      clear-is-free =
-          joined-cong _ _ (F .pages) (F .first)
-          (λ page low high. ap (λ (b : Bool). if b then [] else page ∷ [])
-          (marked-exactly-in-use page (lent-between F page low high)))
-
-      -- and so are those that the check's own marks leave clear
-      pub checked-free : clearPages F (checkedOf F m slots .used) ≡ freePages F m (roots F slots)
-      checked-free = ap (clearPages F) says-used ∙ clear-is-free
+  -- the lent pages that are not marked are the free pages
+  pub clear-is-free : clearPages F (marksOf F (used F m (roots F slots))) ≡ freePages F m (roots F slots)
+  unfolding clearPages freePages freeOf
+  clear-is-free =
+      joined-cong _ _ (F .pages) (F .first)
+      (λ page low high. ap (λ (b : Bool). if b then [] else page ∷ [])
+      (marked-exactly-in-use page (lent-between F page low high)))

@@ -5,10 +5,12 @@
 --   Pages    pages in use are lent, so that their places among the lent tell them apart
 --   Pass     the two passes, over the registers and over the tables
 --   Clear    the pages whose marks are not set, found from the highest down
---   Laws     what callers use: what the check says, and that its marks give the free pages
+--   Laws     what callers use: free pages are lent, and the marks of a sound table give the free pages
+--   Admissions   refusals 1 and 3, once for every call
 pub mod Steps
 pub mod Marks
 pub mod Pages
 pub mod Pass
 pub mod Clear
 pub mod Laws
+pub mod Admissions

@@ -11,7 +11,6 @@ use Rattle.model.specs.Entry.{Entry, flat, pieces, table, invalid, decode}
 use Rattle.model.specs.Frame.{Frame, blocks, lent}
 use Rattle.model.specs.Walk.{entryAt}
 use Rattle.model.specs.Sound.{Slot, register, isOpen, roots, used, cleanPage, sound}
-use Rattle.scan.specs.declared.Checked.{Checked}
 
 -- not sound, or the marks so far
 pub data Scan : Type 0 where
@@ -48,9 +47,6 @@ registerStep L marks slot =
     (if eqb (wpriOf L (register slot)) 0 then markOf marks (sdidOf L (register slot)) else unsound)
     else unsound)
     else marked marks
-
-unfoldable pub refusedCheck : Checked
-refusedCheck = record { sound = false; used = replicate 256 false }
 
 module _ (F : Frame) where
   -- a page is lent and not yet in use
@@ -89,8 +85,3 @@ module _ (F : Frame) where
 
     unfoldable pub slotStep : List Bool → Slot → Scan
     slotStep marks slot = if isOpen slot then rootStep marks (ppnOf (F .layout) (register slot)) else marked marks
-
-    -- the result of the check: whether the table is sound, and if so the marks of the pages in use
-    unfoldable pub checkedOf : List Slot → Checked
-    checkedOf slots =
-        if sound F m slots then record { sound = true; used = marksOf (used F m (roots F slots)) } else refusedCheck

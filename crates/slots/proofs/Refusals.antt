@@ -12,6 +12,11 @@ use Rattle.model.specs.Sound.{Slot, register, emptySlot, roots, sdids, sound, f
 use Rattle.model.specs.Fence.{noFence, domainFence}
 use Rattle.model.specs.Calls.{opened, closed, firstMet, slotAt, refuse, openRefusal, openAt, openSlot, closeRefusal, closeSlot}
 use Rattle.types.specs.declared.Frame.{Frame}
+use Rattle.types.specs.declared.Admission.the-variants.{Refused}
+use Rattle.types.specs.declared.Refusal.{Refusal}
+use Rattle.types.specs.Views.{refusalNumber}
+use Rattle.scan.specs.Admission.{admissionOf}
+use Rattle.scan.proofs.Admissions.{not-admitted}
 use Rattle.slots.specs.Zeroed.{zeroed}
 use Rattle.slots.specs.Named.{notOpen, notEmpty, badSdid}
 use Rattle.table.specs.Board.{board, frameOf}
@@ -29,15 +34,11 @@ module _ (f : Frame) (m : List ℕ) (slots : List Slot) (s : ℕ) where
     unfolding openAt zeroed
     opened-at root = refl
 
-    pub open-frame : frameOk F m ≡ false → openSlot F m slots s sdid ≡ refuse F m slots 1
-    unfolding openSlot openRefusal firstMet
-    open-frame h = rw h
+    pub open-not-admitted : (r : Refusal) → Refused r ≡ admissionOf F m slots → openSlot F m slots s sdid ≡ refuse F m slots (refusalNumber r)
+    unfolding openSlot openRefusal
+    open-not-admitted r h = not-admitted F m slots r _ _ _ h refl
 
     module _ (one : frameOk F m ≡ true) where
-      pub open-unsound : sound F m slots ≡ false → openSlot F m slots s sdid ≡ refuse F m slots 3
-      unfolding openSlot openRefusal firstMet
-      open-unsound h = rw (one, h)
-
       module _ (three : sound F m slots ≡ true) where
         pub open-slot : notEmpty slots s ≡ true → openSlot F m slots s sdid ≡ refuse F m slots 4
         unfolding openSlot openRefusal firstMet
@@ -60,15 +61,11 @@ module _ (f : Frame) (m : List ℕ) (slots : List Slot) (s : ℕ) where
 
   -- ---- close
 
-  pub close-frame : frameOk F m ≡ false → closeSlot F m slots s ≡ refuse F m slots 1
-  unfolding closeSlot closeRefusal firstMet
-  close-frame h = rw h
+  pub close-not-admitted : (r : Refusal) → Refused r ≡ admissionOf F m slots → closeSlot F m slots s ≡ refuse F m slots (refusalNumber r)
+  unfolding closeSlot closeRefusal
+  close-not-admitted r h = not-admitted F m slots r _ _ _ h refl
 
   module _ (one : frameOk F m ≡ true) where
-    pub close-unsound : sound F m slots ≡ false → closeSlot F m slots s ≡ refuse F m slots 3
-    unfolding closeSlot closeRefusal firstMet
-    close-unsound h = rw (one, h)
-
     module _ (three : sound F m slots ≡ true) where
       pub close-slot : notOpen slots s ≡ true → closeSlot F m slots s ≡ refuse F m slots 4
       unfolding closeSlot closeRefusal firstMet

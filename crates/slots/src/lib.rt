@@ -7,8 +7,10 @@ use crate::named::bad_sdid;
 use crate::named::not_empty;
 use crate::named::not_open;
 use crate::page::zero_page;
-use sound::check;
+use sound::admit;
+use sound::no_pages;
 use sound::pick::free_pages;
+use types::Admission;
 use types::Fence;
 use types::Frame;
 use types::PageNumber;
@@ -23,7 +25,8 @@ ghost use mathlib.Core.Bool.{true};
 ghost use Prim.Native.Nat.{_<_};
 ghost use Rattle.model.specs.Frame as frame;
 ghost use Rattle.model.specs.Calls as calls;
-ghost use Rattle.slots.specs.Outcomes.{outcomeOf, refusedWith};
+ghost use Rattle.scan.specs.Admission.{Admitted};
+ghost use Rattle.slots.specs.Outcomes.{outcomeOf, refusedWith, closedAt};
 ghost use Rattle.table.specs.Board.{frameOf};
 
 // What a call leaves, beside the lent memory.
@@ -65,44 +68,47 @@ fn open_at(
     }
 }
 
-// "Opening an empty slot with an SDID takes the lowest free page, zeroes it and sets the register." Refusals 1, 3, 4, 8, 7, in this order.
-pub fn open(f: Frame, words: &mut [Word], slots: [Word; 8], slot: u64, sdid: Sdid) -> Outcome
+// Opening a slot of a sound table, whose marks are at hand. Refusals 4, 8, 7, in this order, and then the change.
+fn open_admitted(
+    f: Frame,
+    words: &mut [Word],
+    slots: [Word; 8],
+    slot: u64,
+    sdid: Sdid,
+    used: &[bool; 256],
+) -> Outcome
+    requires { ⌜ Admitted (frameOf f (now words)) (now words) slots (now used) ⌝ }
     ensures { λ r. ⌜ outcomeOf r (now (words .exit)) ≡ calls.openSlot (frameOf f (now (words .entry))) (now (words .entry)) slots slot (sdid .0) ⌝ }
 {
-    if !lent::frame_ok(f, words) {
-        return refused(Refusal::Frame, slots);
-    }
-    let checked = check(f, words, slots);
-    if !checked.sound {
-        return refused(Refusal::NotSound, slots);
-    }
     if not_empty(slots, slot) {
         return refused(Refusal::Slot, slots);
     }
     if bad_sdid(slots, sdid) {
         return refused(Refusal::Sdid, slots);
     }
-    let free = free_pages(f, words.len(), &checked.used);
+    let free = free_pages(f, words.len(), used);
     if free.count == 0 {
         return refused(Refusal::NoRoom, slots);
     }
     open_at(f, words, slots, slot, sdid, free.first)
 }
 
-// "Closing empties the slot, writes no byte and asks for a domain fence." Refusals 1, 3, 4, in this order.
-pub fn close(f: Frame, words: &[Word], slots: [Word; 8], slot: u64) -> Outcome
-    ensures { λ r. ⌜ outcomeOf r (now (words .entry)) ≡ calls.closeSlot (frameOf f (now (words .entry))) (now (words .entry)) slots slot ⌝ }
+// "Opening an empty slot with an SDID takes the lowest free page, zeroes it and sets the register." Refusals 1, 3 here, and then as above.
+pub fn open(f: Frame, words: &mut [Word], slots: [Word; 8], slot: u64, sdid: Sdid) -> Outcome
+    ensures { λ r. ⌜ outcomeOf r (now (words .exit)) ≡ calls.openSlot (frameOf f (now (words .entry))) (now (words .entry)) slots slot (sdid .0) ⌝ }
 {
-    if !lent::frame_ok(f, words) {
-        return refused(Refusal::Frame, slots);
+    let mut used = no_pages();
+    match admit(f, words, slots, &mut used) {
+        Admission::Refused(why) => refused(why, slots),
+        Admission::Granted => open_admitted(f, words, slots, slot, sdid, &used),
     }
-    let checked = check(f, words, slots);
-    if !checked.sound {
-        return refused(Refusal::NotSound, slots);
-    }
-    if not_open(slots, slot) {
-        return refused(Refusal::Slot, slots);
-    }
+}
+
+// The change of a close that no refusal fits.
+fn close_at(slots: [Word; 8], slot: u64) -> Outcome
+    requires { ⌜ slot < 8 ⌝ }
+    ensures { λ r. ⌜ r ≡ closedAt slots slot ⌝ }
+{
     let at = slot as usize;
     let sdid = register::sdid(slots[at]);
     let mut after = slots;
@@ -111,5 +117,21 @@ pub fn close(f: Frame, words: &[Word], slots: [Word; 8], slot: u64) -> Outcome
         reply: Reply::Closed,
         slots: after,
         fence: Fence::Domain(sdid),
+    }
+}
+
+// "Closing empties the slot, writes no byte and asks for a domain fence." Refusals 1, 3, 4, in this order.
+pub fn close(f: Frame, words: &[Word], slots: [Word; 8], slot: u64) -> Outcome
+    ensures { λ r. ⌜ outcomeOf r (now (words .entry)) ≡ calls.closeSlot (frameOf f (now (words .entry))) (now (words .entry)) slots slot ⌝ }
+{
+    let mut used = no_pages();
+    match admit(f, words, slots, &mut used) {
+        Admission::Refused(why) => refused(why, slots),
+        Admission::Granted => {
+            if not_open(slots, slot) {
+                return refused(Refusal::Slot, slots);
+            }
+            close_at(slots, slot)
+        }
     }
 }

@@ -1,10 +1,11 @@
 // The whole-table check: one pass, each entry read once, with a mark for each page in use.
 pub mod pick;
 
+use types::Admission;
 use types::Entry;
 use types::Frame;
 use types::PageNumber;
-use scan::Checked;
+use types::Refusal;
 use table::lent;
 use table::board::PAGE_WORDS;
 use table::board::RESERVED;
@@ -20,7 +21,8 @@ ghost use Rattle.model.specs.Entry as entry;
 ghost use Rattle.model.specs.Frame.{boundsOk};
 ghost use Rattle.table.specs.Board.{board, frameOver, frameOf};
 ghost use Rattle.types.specs.Views.{entryOf};
-ghost use Rattle.scan.specs.Scan.{answer, scanAll, scanRun, claimOf, linkStep, entryStep, wordStep, rootStep, slotStep, registerStep, refusedCheck, checkedOf};
+ghost use Rattle.scan.specs.Admission.{Admits};
+ghost use Rattle.scan.specs.Scan.{answer, scanAll, scanRun, claimOf, linkStep, entryStep, wordStep, rootStep, slotStep, registerStep};
 
 // "All reserved bits in it are zero": the words are gathered by `|` and tested once.
 fn clean(words: &[Word], at: usize) -> bool
@@ -153,7 +155,8 @@ fn registers(slots: [Word; 8], held: &mut [bool; 64]) -> bool
     true
 }
 
-fn no_pages() -> [bool; 256]
+// No page is marked.
+pub fn no_pages() -> [bool; 256]
     ensures { λ r. ⌜ r ≡ replicate 256 false ⌝ }
 {
     [false; 256]
@@ -165,30 +168,21 @@ fn no_sdids() -> [bool; 64]
     [false; 64]
 }
 
-fn unsound() -> Checked
-    ensures { λ r. ⌜ r ≡ refusedCheck ⌝ }
+// What each call but a lookup asks first: "frame breaks its bounds", and then "table not sound", the registers of the open slots before
+// their tables. If neither fits, used has a mark for each page in use.
+pub fn admit(f: Frame, words: &[Word], slots: [Word; 8], used: &mut [bool; 256]) -> Admission
+    requires { ⌜ now used ≡ replicate 256 false ⌝ }
+    ensures { λ r. ⌜ Admits (frameOf f (now (words .entry))) (now (words .entry)) slots r (now (used .exit)) ⌝ }
 {
-    Checked {
-        sound: false,
-        used: no_pages(),
+    if !lent::frame_ok(f, words) {
+        return Admission::Refused(Refusal::Frame);
     }
-}
-
-// "A sound table": the registers of the open slots, then their tables.
-pub fn check(f: Frame, words: &[Word], slots: [Word; 8]) -> Checked
-    requires { ⌜ boundsOk (frameOf f (now words)) ≡ true ⌝ }
-    ensures { λ r. ⌜ r ≡ checkedOf (frameOf f (now (words .entry))) (now (words .entry)) slots ⌝ }
-{
     let mut held = no_sdids();
-    let mut used = no_pages();
     if !registers(slots, &mut held) {
-        return unsound();
+        return Admission::Refused(Refusal::NotSound);
     }
-    if !tables(f, words, slots, &mut used) {
-        return unsound();
+    if !tables(f, words, slots, used) {
+        return Admission::Refused(Refusal::NotSound);
     }
-    Checked {
-        sound: true,
-        used: used,
-    }
+    Admission::Granted
 }

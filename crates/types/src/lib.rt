@@ -100,6 +100,12 @@ pub enum Found {
 
 // ---- calls
 
+// Whether a call may go on once the frame and the table are seen, or which refusal fits.
+pub enum Admission {
+    Granted,
+    Refused(Refusal),
+}
+
 // What an edit asks. The permission is its two bits, as an entry holds them.
 pub struct Request {
     pub slot: u64,

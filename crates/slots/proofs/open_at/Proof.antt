@@ -21,7 +21,7 @@ zero-page-requires : tie.Need-zero-page-requires
 zero-page-requires c κs = search needs
 
 new-requires : tie.Need-new-requires
-new-requires c κs = let p = c .before .before .before .before .before .before .pre in
+new-requires c κs = let p = c .before .before .before .before .before .before .before .pre in
     let b = bounds _ (p .0) in
     let l = lent-in _ _ (p .1) in
     (p .3, omega (arith, few-pages _ (b .paw-high)))
@@ -37,7 +37,7 @@ same-length c = search needs
 
 returns : tie.Need-returns
 returns c = let z = c .before .before .before in
-    let a = z .before .before .before .before .args in
+    let a = z .before .before .before .before .before .args in
     let m = now (a .words) in
     ap₂ (λ (mem : List ℕ) (reg : ℕ). record { reply = calls.opened; memory = mem; slots = set (a .slots) (a .slot) reg; fence = noFence })
     (z .zero-page .ensures ∙ ap (zeroed m) (z .before .page-at .ensures .0)) (c .new .ensures)
