@@ -21,6 +21,10 @@ use Rattle.types.specs.Views.{privilegeOf, kindOf, permissionNumber}
 use Rattle.monitor.specs.Edits.{asked}
 use Rattle.table.specs.Board.{board}
 
+-- the version of the interface: 1.0
+abbrev pub version : ℕ
+version = 1 * 65536 + 0
+
 -- ---- what is asked
 
 -- what a code names, if it names anything

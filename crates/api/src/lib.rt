@@ -27,7 +27,7 @@ ghost use Prim.Native.Nat.{ℕ, _/_};
 ghost use lib.ListN.{length};
 ghost use Rattle.model.specs.Calls.{openSlot, closeSlot};
 ghost use Rattle.slots.specs.Outcomes.{outcomeOf};
-ghost use Rattle.api.specs.Codes.{privilegeAt, kindAt, permissionAt, openedWord, doneWord, frameIn, lookupWord, soundWord, editWord, editMemory};
+ghost use Rattle.api.specs.Codes.{version, privilegeAt, kindAt, permissionAt, openedWord, doneWord, frameIn, lookupWord, soundWord, editWord, editMemory};
 ghost use Rattle.table.specs.Board.{WORDS};
 
 // A privilege, a kind of access and a permission by their codes, if they name one.
@@ -63,6 +63,14 @@ fn done_word(o: Outcome) -> u64
     let reply = o.reply;
     let fence = o.fence;
     reply_word(reply, fence, 0)
+}
+
+// The version of this interface, as `mpt.h` numbers it: 65,536 times the major number, and the minor one.
+#[no_mangle]
+pub extern "C" fn mpt_version() -> u64
+    ensures { λ r. ⌜ r ≡ version ⌝ }
+{
+    65536
 }
 
 #[no_mangle]

@@ -21,7 +21,7 @@ use Rattle.scan.specs.Admission.{admissionOf, Admits, Admitted}
 use Rattle.scan.proofs.Laws.{clear-is-free}
 
 -- the number that stands for an admission: 0 where it is granted
-abbrev numberOf : Admission → ℕ
+abbrev pub numberOf : Admission → ℕ
 numberOf Granted = 0
 numberOf (Refused r) = refusalNumber r
 
@@ -76,3 +76,13 @@ admitted F m slots r marks few h granted =
       okTable = passed .1;
       clear = rw (h .marked granted) (clear-is-free F m slots (passed .1) (omega (arith, few, bounds F (framed F m (passed .0) .0) .most)));
     }
+
+-- the number of what `admit` answers
+pub admission-number : (F : Frame) (m : List ℕ) (slots : List Slot) → numberOf (admissionOf F m slots) ≡ (if frameOk F m then (if sound F m slots then 0 else 3) else 1)
+unfolding admissionOf
+admission-number F m slots = go (frameOk F m) (sound F m slots)
+  where
+    go : (a b : Bool) → numberOf (chosen a b) ≡ (if a then (if b then 0 else 3) else 1)
+    go true true = refl
+    go true false = refl
+    go false b = refl
