@@ -1,9 +1,10 @@
 -- What an edit asks as the model's request, and what the contracts say of its range and of pages.
 use mathlib.Core.Path.{_≡_}
 use mathlib.Core.Bool.{Bool, true, false}
-use Prim.Native.Nat.{ℕ, _+_, _-_, _*_, _≤_, _<_, _^_}
+use Prim.Native.Nat.{ℕ, _+_, _*_, _≤_, _<_, _^_}
 use Rattle.model.specs.Forms as model
 use Rattle.table.specs.Board.{FIELDS}
+pub use Rattle.shapes.specs.Blocks.{Cut}
 use Rattle.range.specs.declared.Request.{Request}
 use Rattle.range.specs.declared.Place.{Place}
 use Rattle.range.specs.declared.Place.the-variants.{Inside, Outside, Across}
@@ -26,12 +27,6 @@ Lies q s n Across = Unit {0}
 abbrev pub Meets : model.Request → ℕ → ℕ → Bool → Type 0
 Meets q s n true = ((k : ℕ) → s ≤ k → k < s + n → model.inRange q k ≡ false) → ⊥
 Meets q s n false = Unit {0}
-
--- r of the n numbers from s lie below end
-pub record Cut (end s n r : ℕ) : Type 0 where
-  pub few : r ≤ n
-  pub below : r ≤ end - s
-  pub past : r < n → end ≤ s + r
 
 -- no page of block b lies in the range below its L1 entry n; and none from that entry on
 abbrev pub Below : model.Request → ℕ → ℕ → Type 0
