@@ -1,29 +1,27 @@
 -- From the stores that were made to the answer.
-use mathlib.Core.Path.{_≡_, refl, sym, ap, ap₂, _∙_, subst}
+use mathlib.Core.Path.{_≡_, refl, sym, ap, ap₂, _∙_}
 use mathlib.Core.Bool.{Bool, true, false, not, _&&_}
-use mathlib.Core.List.{List, [], _∷_, _++_}
+use mathlib.Core.List.{List, [], _∷_}
 use Prim.Native.Nat.{ℕ, zero, suc, _+_, _*_, _-_, _≤_, _<_}
 use native.Mathlib.Omega.{arith}
-use lib.Dec.{eqb, leb, ltb}
+use lib.Dec.{eqb, leb}
 use lib.ListN.{length, take}
 use lib.Seq.{getD-take}
-use borrow.Author.Tests.{le-leb, lt-leb, eq-eqb, ne-eqb}
+use borrow.Author.Tests.{le-leb, lt-leb, ne-eqb}
 use Rattle.model.specs.Calls.{finished, rootOf, storeList, storeListWith}
 use Rattle.entries.proofs.Runs.{run-whole, run-short}
 use Rattle.edit.specs.Done.{fenceAfter}
 use Rattle.edit.specs.Kinds.{wholeList}
-use Rattle.entries.specs.Run.{Out, whole, cut, runFrom, run}
+use Rattle.entries.specs.Run.{whole, cut, runFrom, run}
 use Rattle.entries.specs.declared.Budget.{Budget}
 use Rattle.laws.proofs.Choices.{split}
 use Rattle.model.specs.Fence.{noFence, domainFence, addressFence, inRoot, oneL1Store, fenceFor}
 use Rattle.model.specs.Forms.{Request, firstGib, forms}
-use Rattle.model.specs.Frame.{Frame, indexOf}
+use Rattle.model.specs.Frame.{Frame}
 use Rattle.model.specs.Layout.{gibBlocks}
 use Rattle.model.specs.Numbers.{if_then_else_}
-use Rattle.model.specs.Register.{sdidOf}
 use Rattle.model.specs.Sound.{roots, freePages}
 use Rattle.model.specs.Stores.{Store, apply, newPages}
-use Rattle.theory.proofs.Along.{apply-append}
 use Rattle.theory.proofs.NewPages.{same-pages}
 
 -- ---- lists cut at a limit

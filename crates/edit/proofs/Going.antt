@@ -36,7 +36,9 @@ use Rattle.theory.proofs.OneCall.{At, spot, next as at-next, at-start}
 use Rattle.theory.proofs.Plans.{AllAt, FitsAll, Call}
 use Rattle.edit.proofs.Fronts.{drop-tail}
 use Rattle.entries.proofs.Places.{frame-same}
-use Rattle.edit.proofs.Facts.{Facts, stores-same}
+use Rattle.edit.proofs.Facts.{Facts}
+use Rattle.forms.proofs.BoardShape.{board-shape}
+use Rattle.shapes.proofs.PageLaws.{stores-same}
 use Rattle.types.specs.declared.Frame as code
 use Rattle.forms.specs.declared.Gib as gibs′
 use Rattle.table.specs.Board.{frameOf}
@@ -175,7 +177,7 @@ module _ (f : code.Frame) (m0 : List ℕ) (q : Request) (root : ℕ) (free : Lis
       stores-here : (new : ℕ) → storesAt G m q root gib b new ≡ blockStores G m0 q root (formOfBlock G m0 q root b) (entryAt G m0 root b) b new
       stores-here new =
           ap₂ (λ (x : Form) (y : Entry). blockStores G m q root x y b new) form-here entry-here
-          ∙ stores-same f m0 q (k .low) root b m (s .here .ahead b (omega arith) in-blocks) (formOfBlock G m0 q root b) (entryAt G m0 root b) new
+          ∙ stores-same G q b m0 m board-shape root (s .here .ahead b (omega arith) in-blocks) (formOfBlock G m0 q root b) (entryAt G m0 root b) new
           (λ t i z h. s .here .aheadL1 b t i (omega arith) in-blocks z h)
 
       need-here : needsPage (formAt G m q root gib b) (entryAt G m root b) ≡ needsPage (formOfBlock G m0 q root b) (entryAt G m0 root b)

@@ -1,5 +1,4 @@
 --   Fronts        the list of free pages: what stands at a place of it, and from there on
---   PiecesBlock   a block whose finished form is TYPE 6
 --   BlockRows     several blocks of one GiB at once
 --   Answers       from the stores that were made to the answer
 --   Facts         what is known of an accepted edit
@@ -7,7 +6,6 @@
 --   Over          several blocks of an edit at once
 --   Turns         the loop over the blocks
 pub mod Fronts
-pub mod PiecesBlock
 pub mod BlockRows
 pub mod Answers
 pub mod Facts

@@ -1,8 +1,8 @@
 -- Several blocks of an edit at once: what the code finds in the memory as it stands of the blocks ahead is what the edit found, and their
 -- stores take the edit on by as many blocks.
 use mathlib.Core.Path.{_≡_, refl, sym, ap, ap₂, _∙_, subst, subst₂}
-use mathlib.Core.Bool.{Bool, true, false}
-use mathlib.Core.List.{List, [], _++_, headD, tail}
+use mathlib.Core.Bool.{Bool}
+use mathlib.Core.List.{List, _++_, headD, tail}
 use Prim.Native.Nat.{ℕ, zero, suc, _+_, _*_, _/_, _≤_, _<_}
 use native.Mathlib.Nat.{add-zero}
 use native.Mathlib.Omega.{arith}
@@ -26,7 +26,9 @@ use Rattle.theory.proofs.Forms.{same-form}
 use Rattle.theory.proofs.Walks.{entry-word}
 use Rattle.edit.proofs.Fronts.{drop-tail}
 use Rattle.entries.proofs.Places.{frame-same}
-use Rattle.edit.proofs.Facts.{Facts, stores-same}
+use Rattle.edit.proofs.Facts.{Facts}
+use Rattle.forms.proofs.BoardShape.{board-shape}
+use Rattle.shapes.proofs.PageLaws.{stores-same}
 use Rattle.edit.proofs.Going.{Going, after-same, going-cut, going-next, size}
 use Rattle.types.specs.declared.Frame as code
 use Rattle.table.specs.Board.{frameOf}
@@ -51,7 +53,7 @@ module _ (f : code.Frame) (m0 : List ℕ) (q : Request) (root : ℕ) (free : Lis
       pub stores-over : (new : ℕ) → storesAt G m q root gib c new ≡ storesAt G m0 q root gib c new
       stores-over new =
           ap₂ (λ (x : Form) (y : Entry). blockStores G m q root x y c new) form-over entry-over
-          ∙ stores-same f m0 q (k .low) root c m (s .here .ahead c lo hi) (formAt G m0 q root gib c) (entryAt G m0 root c) new (λ t i z h. s .here .aheadL1 c t i lo hi z h)
+          ∙ stores-same G q c m0 m board-shape root (s .here .ahead c lo hi) (formAt G m0 q root gib c) (entryAt G m0 root c) new (λ t i z h. s .here .aheadL1 c t i lo hi z h)
 
       pub need-over : needsPage (formAt G m q root gib c) (entryAt G m root c) ≡ needsPage (formAt G m0 q root gib c) (entryAt G m0 root c)
       need-over = ap₂ (λ (x : Form) (y : Entry). needsPage x y) form-over entry-over

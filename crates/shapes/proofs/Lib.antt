@@ -7,6 +7,8 @@
 --   EvenLaws    the finished form of a block that is read without an L1 page
 --   GibLaws     the blocks of a GiB
 --   CountLaws   the new pages of an edit, of which only the blocks at the ends of the range take any
+--   PageLaws    the L1 page of a block
+--   BlockLaws   several blocks of one GiB at once
 pub mod Shape
 pub mod Fields
 pub mod InRange
@@ -16,3 +18,5 @@ pub mod FormLaws
 pub mod EvenLaws
 pub mod GibLaws
 pub mod CountLaws
+pub mod PageLaws
+pub mod BlockLaws

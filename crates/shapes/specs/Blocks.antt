@@ -2,7 +2,7 @@
 use mathlib.Core.Path.{_≡_}
 use mathlib.Core.Bool.{Bool, true, false}
 use mathlib.Core.List.{List}
-use Prim.Native.Nat.{ℕ, _+_, _-_, _*_, _/_, _%_, _≤_, _<_}
+use Prim.Native.Nat.{ℕ, _+_, _-_, _*_, _/_, _%_, _^_, _≤_, _<_}
 use Rattle.model.specs.Numbers.{digit}
 use Rattle.model.specs.Layout.{Layout, blockPages, gibBlocks, piecePages}
 use Rattle.model.specs.Entry as entry
@@ -33,6 +33,30 @@ Mixes L q b info at false = (i : ℕ) → i < L .pieces → b * blockPages + i *
 -- block b of a root is all of permission p, once the edit is whole
 abbrev pub blockIs : frame.Frame → List ℕ → model.Request → ℕ → ℕ → ℕ → Bool
 blockIs F m q root p b = model.allAre F m q (walk.entryAt F m root b) p blockPages (b * blockPages)
+
+-- ---- several blocks of one GiB, which is or is not of one permission, p
+
+-- the finished form of block b
+abbrev pub formAt : frame.Frame → List ℕ → model.Request → ℕ → Bool → ℕ → ℕ → model.Form
+formAt F m q root one p b = model.formIn F m q one p (walk.entryAt F m root b) b
+
+-- its stores; and those of n blocks from b, with the free pages in order, and how many new pages they take
+abbrev pub storesAt : frame.Frame → List ℕ → model.Request → ℕ → Bool → ℕ → ℕ → ℕ → List stores.Store
+storesAt F m q root one p b new = stores.blockStores F m q root (formAt F m q root one p b) (walk.entryAt F m root b) b new
+
+abbrev pub storesOver : frame.Frame → List ℕ → model.Request → ℕ → Bool → ℕ → ℕ → ℕ → List ℕ → List stores.Store
+storesOver F m q root one p n b free = stores.storesFrom F m q root b (model.formsIn F m q root one p n b) free
+
+abbrev pub pagesOver : frame.Frame → List ℕ → model.Request → ℕ → Bool → ℕ → ℕ → ℕ → ℕ
+pagesOver F m q root one p n b = stores.newPages F m root b (model.formsIn F m q root one p n b)
+
+-- a form whose entry fits a word
+abbrev pub Encodes : Layout → model.Form → Type 0
+Encodes L (model.wantFlat p) = p < 4
+Encodes L (model.wantPieces i) = i < 4 ^ L .pieces
+Encodes L model.wantTable = Unit {0}
+
+-- ---- the whole edit
 
 -- the finished form of block c of a touched GiB
 abbrev pub formOfBlock : frame.Frame → List ℕ → model.Request → ℕ → ℕ → model.Form
