@@ -9,6 +9,9 @@
 --   CountLaws   the new pages of an edit, of which only the blocks at the ends of the range take any
 --   PageLaws    the L1 page of a block
 --   BlockLaws   several blocks of one GiB at once
+--   RowLaws     rows of neighbouring words
+--   Order       where an edit stands between two of its stores
+--   SlotLaws    slots one after another, and the words of a page to zero
 pub mod Shape
 pub mod Fields
 pub mod InRange
@@ -20,3 +23,6 @@ pub mod GibLaws
 pub mod CountLaws
 pub mod PageLaws
 pub mod BlockLaws
+pub mod RowLaws
+pub mod Order
+pub mod SlotLaws
