@@ -1,43 +1,28 @@
 -- From the stores that were made to the answer.
-use mathlib.Core.Path.{_≡_, refl, sym, ap, ap₂, _∙_, subst}
+use mathlib.Core.Path.{_≡_, refl, sym, ap, ap₂, _∙_}
 use mathlib.Core.Bool.{Bool, true, false, not, _&&_}
-use mathlib.Core.List.{List, [], _∷_, _++_}
+use mathlib.Core.List.{List, [], _∷_}
 use Prim.Native.Nat.{ℕ, zero, suc, _+_, _*_, _-_, _≤_, _<_}
 use native.Mathlib.Omega.{arith}
-use lib.Dec.{eqb, leb, ltb}
+use lib.Dec.{eqb, leb}
 use lib.ListN.{length, take}
-use lib.Seq.{getD-take}
-use borrow.Author.Tests.{le-leb, lt-leb, eq-eqb, ne-eqb}
+use lib.Seq.{getD-take, length-take-le, take-all}
+use borrow.Author.Tests.{le-leb, lt-leb, ne-eqb}
 use Rattle.model.specs.Calls.{finished, rootOf, storeList, storeListWith}
 use Rattle.entries.proofs.Runs.{run-whole, run-short}
 use Rattle.edit.specs.Done.{fenceAfter}
 use Rattle.edit.specs.Kinds.{wholeList}
-use Rattle.entries.specs.Run.{Out, whole, cut, runFrom, run}
+use Rattle.entries.specs.Run.{whole, cut, runFrom, run}
 use Rattle.types.specs.declared.Budget.{Budget}
 use Rattle.laws.proofs.Choices.{split}
 use Rattle.model.specs.Fence.{noFence, domainFence, addressFence, inRoot, oneL1Store, fenceFor}
 use Rattle.model.specs.Forms.{Request, firstGib, forms}
-use Rattle.model.specs.Frame.{Frame, indexOf}
+use Rattle.model.specs.Frame.{Frame}
 use Rattle.model.specs.Layout.{gibBlocks}
 use Rattle.model.specs.Numbers.{if_then_else_}
-use Rattle.model.specs.Register.{sdidOf}
 use Rattle.model.specs.Sound.{roots, freePages}
 use Rattle.model.specs.Stores.{Store, apply, newPages}
-use Rattle.theory.proofs.Along.{apply-append}
 use Rattle.theory.proofs.NewPages.{same-pages}
-
--- ---- lists cut at a limit
-
-pub take-all : (list : List Store) (limit : ℕ) → length list ≤ limit → take limit list ≡ list
-take-all [] zero h = refl
-take-all [] (suc n) h = refl
-take-all (x ∷ xs) zero h = absurd (omega arith)
-take-all (x ∷ xs) (suc n) h = ap (λ (l : List Store). x ∷ l) (take-all xs n (omega arith))
-
-pub take-some : (list : List Store) (limit : ℕ) → limit ≤ length list → length (take limit list) ≡ limit
-take-some list zero h = refl
-take-some [] (suc n) h = absurd (omega arith)
-take-some (x ∷ xs) (suc n) h = ap suc (take-some xs n (omega arith))
 
 -- the last of one store
 pub last-of : (limit : ℕ) (s : Store) (m : List ℕ) (l : Budget) (n : List ℕ) → run (record { more = limit; last = 0 }) (s ∷ []) m ≡ whole l n → l .last ≡ s .at
@@ -52,10 +37,10 @@ module _ (F : Frame) (q : Request) (root sdid : ℕ) (list : List Store) (limit 
     all-fits = run-whole (record { more = limit; last = 0 }) list m l m′ e .0
 
     pub all-memory : m′ ≡ apply (take limit list) m
-    all-memory = run-whole (record { more = limit; last = 0 }) list m l m′ e .1 ∙ ap (λ (x : List Store). apply x m) (sym (take-all list limit (omega (arith, all-fits))))
+    all-memory = run-whole (record { more = limit; last = 0 }) list m l m′ e .1 ∙ ap (λ (x : List Store). apply x m) (sym (take-all limit list (omega (arith, all-fits))))
 
     pub all-count : limit - l .more ≡ length (take limit list)
-    all-count = let z : limit - l .more ≡ length list = omega (arith, all-fits) in z ∙ ap (λ (x : List Store). length x) (sym (take-all list limit (omega (arith, all-fits))))
+    all-count = let z : limit - l .more ≡ length list = omega (arith, all-fits) in z ∙ ap (λ (x : List Store). length x) (sym (take-all limit list (omega (arith, all-fits))))
 
     pub all-true : true ≡ leb (length list) limit
     all-true = sym (le-leb (length list) limit (omega (arith, all-fits)))
@@ -83,7 +68,7 @@ module _ (F : Frame) (q : Request) (root sdid : ℕ) (list : List Store) (limit 
     cut-memory = run-short (record { more = limit; last = 0 }) list m m′ e .1
 
     pub cut-count : limit ≡ length (take limit list)
-    cut-count = sym (take-some list limit (omega (arith, few)))
+    cut-count = sym (length-take-le limit list (omega (arith, few)))
 
     pub cut-false : false ≡ leb (length list) limit
     cut-false = sym (lt-leb (length list) limit few)

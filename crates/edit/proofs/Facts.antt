@@ -1,24 +1,19 @@
--- What is known of an accepted edit; and the stores of a block, from two memories that have the same of it.
-use mathlib.Core.Path.{_≡_, refl, sym, ap, ap₂, _∙_, subst}
-use mathlib.Core.Bool.{Bool, true, false}
-use mathlib.Core.List.{List, [], _∷_, _++_}
+-- What is known of an accepted edit.
+use mathlib.Core.Path.{_≡_, sym, ap, ap₂, _∙_, subst}
+use mathlib.Core.Bool.{Bool, true}
+use mathlib.Core.List.{List}
 use Prim.Native.Nat.{ℕ, _+_, _*_, _^_, _≤_, _<_, min, _%_}
 use native.Mathlib.Omega.{arith}
-use lib.Dec.{eqb}
 use lib.ListN.{length, take, drop, length-take, take-append-drop}
 use Rattle.edit.specs.Kinds.{Encodes, Accepted, wholeList}
 use Rattle.entries.specs.Ahead.{Ahead}
 use Rattle.entries.proofs.Order.{ahead-of, ahead-start}
-use Rattle.entries.specs.Pages.{Plain}
-use Rattle.forms.proofs.EntryLaws.{after-small}
-use Rattle.laws.proofs.Choices.{split, and-true}
-use Rattle.laws.proofs.Digits.{pack-lt}
-use Rattle.model.specs.Entry.{Entry, flat, pieces, table, invalid, encode}
-use Rattle.model.specs.Forms.{Request, Form, wantPieces, l1Word, wantFlat, wantTable, formIn, piecesAreOne, piecesInfo, forms, firstGib, gibs}
-use Rattle.model.specs.Frame.{Frame, lent, wordAt, blocks, space, boundsOk, frameOk}
-use Rattle.model.specs.Numbers.{if_then_else_}
-use Rattle.model.specs.Stores.{Store, storeAt, storeL2, ifChanged, ifChangedL2, sameTable, newTable, blockStores, newPages, linkTable}
-use Rattle.model.specs.Walk.{entryPage, l2Word}
+use Rattle.laws.proofs.Choices.{and-true}
+use Rattle.model.specs.Entry.{Entry}
+use Rattle.model.specs.Forms.{Request, formIn, forms, firstGib, gibs}
+use Rattle.model.specs.Frame.{Frame, lent, blocks, space, boundsOk, frameOk}
+use Rattle.model.specs.Stores.{newPages}
+use Rattle.model.specs.Walk.{entryPage}
 use Rattle.theory.specs.Rooted.{Good}
 use lib.Pow.{pow-mono}
 use Rattle.edit.proofs.Answers.{list-is}
@@ -35,51 +30,16 @@ use Rattle.theory.proofs.Steps.{root-lent as page-lent}
 use Rattle.theory.proofs.Tables.{Sound}
 use Rattle.theory.proofs.Used.{pagesOf, links, used-measure}
 use Rattle.theory.proofs.WholeCall.{Edit, ok-of, sound-of, here-of}
-use Rattle.laws.proofs.Lists.{joined-cong}
-use Rattle.entries.proofs.Places.{changed-same, l1-plain}
+use Rattle.forms.proofs.BoardShape.{board-shape}
+use Rattle.shapes.proofs.BlockLaws as blocks
 use Rattle.types.specs.declared.Frame as code
-use Rattle.table.specs.Board.{board, WORDS, PIECES, frameOf}
+use Rattle.table.specs.Board.{board, frameOf}
 use Rattle.range.proofs.Lawful.{board-lawful}
 
 -- a form's entry fits a word
 pub form-encodes : (paw first pages : ℕ) (m : List ℕ) (q : Request) (low : q .permission < 4) (e : Entry) (g : Good (record { layout = board; paw = paw; first = first; pages = pages }) m e) (one : Bool) (p b : ℕ)
     → p < 4 → Encodes (formIn (record { layout = board; paw = paw; first = first; pages = pages }) m q one p e b)
-unfolding formIn piecesInfo
-form-encodes paw first pages m q low e g true p b h = h
-form-encodes paw first pages m q low e g false p b h =
-    let F : Frame = record { layout = board; paw = paw; first = first; pages = pages } in
-    split (piecesAreOne F m q e b)
-    (λ z. rw z (pack-lt 4 _ (λ i. after-small paw first pages m q low e g _) PIECES 0))
-    (λ z. rw z tt)
-
--- ---- the stores of a block, from two memories that have the same of it
-
-module _ (f : code.Frame) (m0 : List ℕ) (q : Request) (low : q .permission < 4) (root b : ℕ) (m : List ℕ) where
-  abbrev F₀ : Frame
-  F₀ = frameOf f m0
-
-  new-same : (e : Entry) (new : ℕ) → Plain e → newTable F₀ m q e b new ≡ newTable F₀ m0 q e b new
-  unfolding newTable
-  new-same e new pl =
-      joined-cong (λ i. storeAt F₀ new i (l1Word F₀ m q e b i) ∷ []) (λ i. storeAt F₀ new i (l1Word F₀ m0 q e b i) ∷ []) WORDS 0
-      (λ i lo hi. ap (λ (w : ℕ). storeAt F₀ new i w ∷ []) (l1-plain (f .paw) (f .first .0) m0 q low b m0 m e i pl))
-
-  link-same : (e : Entry) (new : ℕ) → Plain e → linkTable F₀ m q root e b new ≡ linkTable F₀ m0 q root e b new
-  unfolding linkTable
-  link-same e new pl = ap (λ (x : List Store). x ++ (storeL2 F₀ root b (encode board (table new)) ∷ [])) (new-same e new pl)
-
-  pub stores-same : l2Word F₀ m root b ≡ l2Word F₀ m0 root b → (fm : Form) (e : Entry) (new : ℕ)
-      → ((t i : ℕ) → e ≡ table t → i < WORDS → wordAt F₀ m t i ≡ wordAt F₀ m0 t i)
-      → blockStores F₀ m q root fm e b new ≡ blockStores F₀ m0 q root fm e b new
-  unfolding blockStores ifChangedL2 sameTable
-  stores-same same (wantFlat p) e new h = ap (λ (x : ℕ). if eqb x (encode board (flat p)) then [] else storeL2 F₀ root b (encode board (flat p)) ∷ []) same
-  stores-same same (wantPieces p) e new h = ap (λ (x : ℕ). if eqb x (encode board (pieces p)) then [] else storeL2 F₀ root b (encode board (pieces p)) ∷ []) same
-  stores-same same wantTable (table t) new h =
-      joined-cong (λ i. ifChanged F₀ m t i (l1Word F₀ m q (table t) b i)) (λ i. ifChanged F₀ m0 t i (l1Word F₀ m0 q (table t) b i)) WORDS 0
-      (λ i lo hi. changed-same (f .paw) (f .first .0) m0 q low b m0 m t i (omega arith) (h t i refl (omega arith)))
-  stores-same same wantTable (flat p) new h = link-same (flat p) new tt
-  stores-same same wantTable (pieces p) new h = link-same (pieces p) new tt
-  stores-same same wantTable invalid new h = link-same invalid new tt
+form-encodes paw first pages = blocks.form-encodes (record { layout = board; paw = paw; first = first; pages = pages }) board-shape
 
 -- ---- what is known of an accepted edit
 

@@ -1,9 +1,9 @@
 -- What the contracts ask of a block and of an accepted edit.
 use mathlib.Core.Path.{_≡_}
-use mathlib.Core.Bool.{Bool, true, false}
-use mathlib.Core.List.{List, [], _∷_, headD, tail}
+use mathlib.Core.Bool.{true}
+use mathlib.Core.List.{List}
 use Prim.Native.Nat.{ℕ, _*_, _<_, _^_}
-use lib.ListN.{length, take}
+use lib.ListN.{take}
 use Rattle.model.specs.Layout.{gibBlocks}
 use Rattle.model.specs.Frame as frame
 use Rattle.model.specs.Walk as walk
@@ -13,13 +13,12 @@ use Rattle.model.specs.Stores as stores
 use Rattle.model.specs.Calls as calls
 use Rattle.types.specs.declared.Gib.{Gib}
 use Rattle.forms.specs.Kinds.{formAt}
-use Rattle.table.specs.Board.{board, ENTRY, INFO}
+use Rattle.shapes.specs.Blocks as blocks
+use Rattle.table.specs.Board.{board, ENTRY}
 
 -- a form whose entry fits a word
 abbrev pub Encodes : model.Form → Type 0
-Encodes (model.wantFlat p) = p < 4
-Encodes (model.wantPieces i) = i < INFO
-Encodes model.wantTable = Unit {0}
+Encodes = blocks.Encodes board
 
 -- the stores of block b, by what gib says of its GiB
 abbrev pub storesAt : frame.Frame → List ℕ → model.Request → ℕ → Gib → ℕ → ℕ → List stores.Store

@@ -1,8 +1,8 @@
 -- A block that gets a new L1 page: its entries one after another, and their run in three parts.
-use mathlib.Core.Path.{_≡_, refl, sym, ap, ap₂, _∙_}
+use mathlib.Core.Path.{_≡_, refl, sym, ap, _∙_}
 use mathlib.Core.Bool.{true, false, not}
 use mathlib.Core.List.{List, [], _∷_, _++_}
-use Prim.Native.Nat.{ℕ, zero, suc, _+_, _-_, _*_, _/_, _≤_, _<_}
+use Prim.Native.Nat.{ℕ, _+_, _-_, _≤_, _<_}
 use native.Mathlib.Omega.{arith}
 use lib.ListN.{length}
 use Rattle.table.specs.Board.{WORDS, frameOf}
@@ -10,41 +10,29 @@ use Rattle.entries.proofs.Runs.{went-whole, went-cut, joined-end}
 use Rattle.entries.proofs.Order.{ahead-of, Way, way-start, way-end, way-ahead, way-next, way-cut}
 use Rattle.entries.specs.Ahead.{Ahead}
 use Rattle.entries.specs.Pages.{Plain, newRun}
-use Rattle.entries.specs.Rows.{fillStores}
 use Rattle.entries.specs.Run.{whole, out, run}
 use Rattle.types.specs.declared.Budget.{Budget}
 use Rattle.types.specs.declared.Went.{Went}
 use Rattle.model.specs.Entry.{Entry}
 use Rattle.model.specs.Forms.{Request, l1Word}
-use Rattle.model.specs.Frame.{Frame, lent, indexOf}
-use Rattle.model.specs.Numbers.{joined}
+use Rattle.model.specs.Frame.{Frame, lent}
 use Rattle.model.specs.Stores.{Store, storeAt, newTable}
 use Rattle.theory.specs.Rooted.{Good}
-use Rattle.laws.proofs.Lists.{joined-append, joined-cong}
-use Rattle.entries.proofs.Places.{frame-same, index-next, l1-plain, store-at, lent-same, good-same}
+use Rattle.laws.proofs.Lists.{joined-append}
+use Rattle.entries.proofs.Places.{frame-same, lent-same, good-same}
+use Rattle.shapes.proofs.PageLaws as pages
+pub use Rattle.shapes.proofs.PageLaws.{fill-run}
 use Rattle.types.specs.declared.Frame as code
 
 module _ (f : code.Frame) (q : Request) (low : q .permission < 4) (e : Entry) (pl : Plain e) (b new : ℕ) (m0 : List ℕ) where
   -- the stores of a run follow from the block's entry, and not from the memory
   pub run-same : (m : List ℕ) → length m ≡ length m0 → (n i : ℕ) → newRun (frameOf f m) m q e b new n i ≡ newRun (frameOf f m0) m0 q e b new n i
-  run-same m len n i =
-      ap (λ (X : Frame). newRun X m q e b new n i) (frame-same f m m0 len)
-      ∙ joined-cong (λ k. storeAt (frameOf f m0) new k (l1Word (frameOf f m0) m q e b k) ∷ []) (λ k. storeAt (frameOf f m0) new k (l1Word (frameOf f m0) m0 q e b k) ∷ []) n i
-      (λ k lo hi. ap (λ (w : ℕ). storeAt (frameOf f m0) new k w ∷ []) (l1-plain (f .paw) (f .first .0) m0 q low b m0 m e k pl))
+  run-same m len n i = ap (λ (X : Frame). newRun X m q e b new n i) (frame-same f m m0 len) ∙ pages.run-plain (frameOf f m0) q b m0 m e pl new n i
 
   pub run-parts : (from to : ℕ) → from ≤ to → to ≤ WORDS
       → newTable (frameOf f m0) m0 q e b new
       ≡ newRun (frameOf f m0) m0 q e b new (from - 0) 0 ++ (newRun (frameOf f m0) m0 q e b new (to - from) from ++ newRun (frameOf f m0) m0 q e b new (WORDS - to) to)
-  unfolding newTable
-  run-parts from to h fits =
-      let g : ℕ → List Store = λ k. storeAt (frameOf f m0) new k (l1Word (frameOf f m0) m0 q e b k) ∷ [] in
-      let u : WORDS ≡ (from - 0) + ((to - from) + (WORDS - to)) = omega arith in
-      let v : 0 + (from - 0) ≡ from = omega arith in
-      let w : from + (to - from) ≡ to = omega arith in
-      ap (λ (n : ℕ). joined g n 0) u
-      ∙ joined-append g (from - 0) ((to - from) + (WORDS - to)) 0
-      ∙ ap (λ (l : List Store). joined g (from - 0) 0 ++ l)
-      (ap (joined g ((to - from) + (WORDS - to))) v ∙ joined-append g (to - from) (WORDS - to) from ∙ ap (λ (k : ℕ). joined g (to - from) from ++ joined g (WORDS - to) k) w)
+  run-parts = pages.run-parts (frameOf f m0) m0 q e b new
 
 -- the entries from .. i are done, and the rest up to `to` decides the whole
 pub record New (f : code.Frame) (q : Request) (e : Entry) (b new : ℕ) (m0 : List ℕ) (left : Budget) (from to : ℕ) (m : List ℕ) (more : Budget) (i : ℕ) : Type 0 where
@@ -103,15 +91,3 @@ module _ {f : code.Frame} {q : Request} {e : Entry} {b new : ℕ} {m0 : List ℕ
 
     pub new-lent : lent H new ≡ true → lent (frameOf f m) new ≡ true
     new-lent h = lent-same f m0 m (s .size) new h
-
--- ---- entries that are all one word
-
-module _ (F : Frame) (m : List ℕ) (q : Request) (e : Entry) (b new w : ℕ) where
-  pub fill-run : (n i : ℕ) → ((k : ℕ) → i ≤ k → k < i + n → w ≡ l1Word F m q e b k) → fillStores w n (indexOf F new i) ≡ newRun F m q e b new n i
-  unfolding joined
-  fill-run zero i o = refl
-  fill-run (suc n) i o =
-      let next : suc (indexOf F new i) ≡ indexOf F new (suc i) = index-next F new i in
-      ap₂ (λ (x y : List Store). x ++ y)
-      (store-at F new i w (indexOf F new i) refl ∙ ap (λ (x : ℕ). storeAt F new i x ∷ []) (o i (omega arith) (omega arith)))
-      (ap (fillStores w n) next ∙ fill-run n (suc i) (λ k lo hi. o k (omega arith) (omega arith)))

@@ -1,43 +1,32 @@
 -- A block with an L1 page of its own: its entries one after another, of which only those that the range can meet change.
 use mathlib.Core.Path.{_≡_, refl, sym, ap, _∙_, subst}
 use mathlib.Core.Bool.{false}
-use mathlib.Core.List.{List, [], _++_}
-use Prim.Native.Nat.{ℕ, _+_, _*_, _-_, _/_, _^_, _≤_, _<_}
+use mathlib.Core.List.{List}
+use Prim.Native.Nat.{ℕ, _+_, _*_, _-_, _≤_, _<_}
 use native.Mathlib.Nat.{zero-add}
 use native.Mathlib.Omega.{arith}
 use lib.Dec.{eqb}
 use lib.ListN.{length, getD}
-use borrow.Author.Tests.{eqb-true, eqb-false, eq-eqb}
+use borrow.Author.Tests.{eqb-true, eqb-false}
 use Rattle.table.specs.Board.{board, WORDS, FIELDS, ENTRY, frameOf}
 use Rattle.entries.proofs.Runs.{run-none, run-whole, joined-turn}
 use Rattle.entries.proofs.Order.{ahead-of, Way, way-start, way-end, way-ahead, way-next, way-cut}
 use Rattle.entries.specs.Ahead.{Ahead}
 use Rattle.entries.specs.Run.{Out, whole, cut, run}
 use Rattle.types.specs.declared.Budget.{Budget}
-use Rattle.forms.proofs.EntryLaws.{word-outside}
 use Rattle.laws.proofs.Choices.{split}
 use Rattle.model.specs.Entry.{table, clean}
 use Rattle.model.specs.Forms.{Request, inRange, l1Word}
-use Rattle.model.specs.Frame.{Frame, wordAt, indexOf}
+use Rattle.model.specs.Frame.{Frame, wordAt}
 use Rattle.model.specs.Numbers.{joined}
 use Rattle.model.specs.Stores.{Store, ifChanged, sameTable}
 use Rattle.theory.specs.Rooted.{Good}
 use Rattle.laws.proofs.Lists.{joined-none, joined-skip}
-use Rattle.entries.proofs.Places.{Put, changed-same, frame-same, l1-clean, put-changed}
+use Rattle.shapes.specs.Pages.{ownRun}
+use Rattle.shapes.proofs.PageLaws.{Put, changed-same, entry-stays, l1-clean, put-changed}
+use Rattle.forms.proofs.BoardShape.{board-shape}
+use Rattle.entries.proofs.Places.{frame-same}
 use Rattle.types.specs.declared.Frame as code
-
--- an L1 entry whose pages lie outside the range does not change
-pub entry-stays : (f : code.Frame) (m : List ℕ) (q : Request) (low : q .permission < 4) (t b : ℕ) → Good (frameOf f m) m (table t) → ((j : ℕ) → getD m j 0 < ENTRY) → (i : ℕ) → i < WORDS
-    → ((k : ℕ) → b * 8192 + i * FIELDS ≤ k → k < b * 8192 + i * FIELDS + FIELDS → inRange q k ≡ false) → ifChanged (frameOf f m) m t i (l1Word (frameOf f m) m q (table t) b i) ≡ []
-unfolding ifChanged wordAt
-entry-stays f m q low t b g low64 i h o =
-    rw (eq-eqb _ _ (word-outside (f .paw) (f .first .0) (length m / WORDS) m q low (table t) g b i h (low64 (indexOf (frameOf f m) t i)) o))
-
--- ---- the entries of a block's own page, one after another
-
--- the stores of the entries from i on, that the edit finds in m0
-abbrev pub sameRest : Frame → List ℕ → Request → ℕ → ℕ → ℕ → ℕ → List Store
-sameRest F m0 q t b n i = joined (λ k. ifChanged F m0 t k (l1Word F m0 q (table t) b k)) n i
 
 module _ (f : code.Frame) (q : Request) (t b : ℕ) (m0 : List ℕ) (left : Budget) where
   abbrev G : Frame
@@ -49,7 +38,7 @@ module _ (f : code.Frame) (q : Request) (t b : ℕ) (m0 : List ℕ) (left : Budg
     pub size : length m ≡ length m0
     pub ahead : (j : ℕ) → i ≤ j → j < WORDS → wordAt G m t j ≡ wordAt G m0 t j
     pub good : Good G m (table t)
-    pub way : Way left m0 (sameTable G m0 q (table t) b t) more m (sameRest G m0 q t b (WORDS - i) i)
+    pub way : Way left m0 (sameTable G m0 q (table t) b t) more m (ownRun G m0 q t b (WORDS - i) i)
 
   abbrev gs : ℕ → List Store
   gs k = ifChanged G m0 t k (l1Word G m0 q (table t) b k)
@@ -60,9 +49,9 @@ module _ (f : code.Frame) (q : Request) (t b : ℕ) (m0 : List ℕ) (left : Budg
   unfolding sameTable
   same-start low g low64 from few o a =
       let u : WORDS ≡ from + (WORDS - from) = omega arith in
-      let skip : sameTable G m0 q (table t) b t ≡ sameRest G m0 q t b (WORDS - from) from
+      let skip : sameTable G m0 q (table t) b t ≡ ownRun G m0 q t b (WORDS - from) from
       = ap (λ (n : ℕ). joined gs n 0) u
-      ∙ joined-skip gs from (WORDS - from) 0 (λ i lo hi. entry-stays f m0 q low t b g low64 i (omega arith) (λ k l v. o k (omega arith) (omega arith)))
+      ∙ joined-skip gs from (WORDS - from) 0 (λ i lo hi. entry-stays G board-shape m0 q low t b g low64 i (omega arith) (λ k l v. o k (omega arith) (omega arith)))
       ∙ ap (joined gs (WORDS - from)) (zero-add from) in
       record {
         few = few;
@@ -74,7 +63,7 @@ module _ (f : code.Frame) (q : Request) (t b : ℕ) (m0 : List ℕ) (left : Budg
 
   module _ (low : q .permission < 4) (m : List ℕ) (more : Budget) (i : ℕ) (s : Same m more i) (h : i < WORDS) where
     as-found : ifChanged G m t i (l1Word G m q (table t) b i) ≡ gs i
-    as-found = changed-same (f .paw) (f .first .0) m0 q low b m0 m t i h (s .ahead i (omega arith) h)
+    as-found = changed-same G q b m0 m board-shape t i h (s .ahead i (omega arith) h)
 
     pub same-ahead : Ahead m (ifChanged (frameOf f m) m t i (l1Word (frameOf f m) m q (table t) b i))
     same-ahead =
@@ -95,7 +84,7 @@ module _ (f : code.Frame) (q : Request) (t b : ℕ) (m0 : List ℕ) (left : Budg
     pub same-next : {l : Budget} {m′ : List ℕ} → o ≡ whole l m′ → Same m′ l (i + 1)
     same-next {l} {m′} z =
         let wrote : Put G m m′ t i (l1Word G m q (table t) b i)
-        = put-changed (f .paw) (f .first .0) m0 m (s .size) t i (l1Word G m q (table t) b i) (s .good .0) h m′
+        = put-changed G m (omega (arith, s .size)) t i (l1Word G m q (table t) b i) (s .good .0) h m′
         (run-whole more (ifChanged G m t i (l1Word G m q (table t) b i)) m l m′ (sym here ∙ z) .1) in
         record {
           few = omega arith;
@@ -105,7 +94,7 @@ module _ (f : code.Frame) (q : Request) (t b : ℕ) (m0 : List ℕ) (left : Budg
             s .good .0,
             λ j u. split (eqb j i)
                 (λ y. let same : j ≡ i = eqb-true j i y in
-                ap (λ (k : ℕ). clean board (wordAt G m′ t k)) same ∙ ap (clean board) (wrote .here) ∙ l1-clean (f .paw) (f .first .0) m0 q low b m (table t) i (s .good))
+                ap (λ (k : ℕ). clean board (wordAt G m′ t k)) same ∙ ap (clean board) (wrote .here) ∙ l1-clean G board-shape m q low (table t) (s .good) b i)
                 (λ y. ap (clean board) (wrote .others t j (s .good .0) u (λ x. eqb-false j i y)) ∙ s .good .1 j u),
           );
           way = way-next (s .way) (gs i) _ (joined-turn gs WORDS i h) (sym z ∙ step);
@@ -116,7 +105,7 @@ module _ (f : code.Frame) (q : Request) (t b : ℕ) (m0 : List ℕ) (left : Budg
       → ((k : ℕ) → b * 8192 + to * FIELDS ≤ k → k < b * 8192 + 8192 → inRange q k ≡ false)
       → (m : List ℕ) (more : Budget) (i : ℕ) → Same m more i → to ≤ i → whole more m ≡ run left (sameTable G m0 q (table t) b t) m0
   same-end low g low64 to o m more i s h =
-      way-end (s .way) (joined-none gs (WORDS - i) i (λ j lo hi. entry-stays f m0 q low t b g low64 j (omega (arith, s .few)) (λ k l v. o k (omega arith) (omega (arith, s .few)))))
+      way-end (s .way) (joined-none gs (WORDS - i) i (λ j lo hi. entry-stays G board-shape m0 q low t b g low64 j (omega (arith, s .few)) (λ k l v. o k (omega arith) (omega (arith, s .few)))))
 
 -- ---- a block outside the range: its own page does not change
 
@@ -127,5 +116,5 @@ unfolding sameTable
 own-none f m q low t b g o low64 left =
     sym (ap (λ (ss : List Store). run left ss m)
     (joined-none (λ i. ifChanged (frameOf f m) m t i (l1Word (frameOf f m) m q (table t) b i)) WORDS 0
-    (λ i lo hi. entry-stays f m q low t b g low64 i (omega arith) (λ k l u. o k (omega arith) (omega arith))))
+    (λ i lo hi. entry-stays (frameOf f m) board-shape m q low t b g low64 i (omega arith) (λ k l u. o k (omega arith) (omega arith))))
     ∙ run-none left m)

@@ -1,42 +1,23 @@
 -- A row of entries, word by word: those before place i are done, and those from there on stand as they were.
-use mathlib.Core.Path.{_≡_, refl, sym, ap, ap₂, _∙_, subst}
+use mathlib.Core.Path.{_≡_, refl, sym, ap, ap₂, _∙_}
 use mathlib.Core.Bool.{Bool, true, false}
 use mathlib.Core.List.{List, [], _∷_, _++_, append-nil}
 use Prim.Native.Nat.{ℕ, _+_, _-_, _≤_, _<_}
 use native.Mathlib.Omega.{arith}
 use lib.Dec.{eqb}
 use lib.ListN.{length, getD, length-set}
-use lib.Seq.{getD-set-other}
-use borrow.Author.Tests.{eqb-true, eqb-false}
 use Rattle.entries.specs.Ahead.{Ahead}
 use Rattle.entries.specs.Run.{Out, whole, cut, out, run}
-use Rattle.entries.specs.Rows.{changeAt, rowStores, fillStores, differs}
+use Rattle.entries.specs.Rows.{changeAt, rowStores, fillStores}
 use Rattle.types.specs.declared.Budget.{Budget}
-use Rattle.laws.proofs.Choices.{split, not-true-false}
-use Rattle.laws.proofs.Every.{every-in}
-use Rattle.model.specs.Numbers.{if_then_else_, joined, every}
+use Rattle.model.specs.Numbers.{if_then_else_, joined}
 use Rattle.model.specs.Stores.{Store, apply}
 use Rattle.table.specs.Stored.{storeOf}
-use Rattle.laws.proofs.Lists.{joined-append, joined-cong}
+use Rattle.laws.proofs.Lists.{joined-append}
+use Rattle.shapes.proofs.RowLaws.{change-length, change-other}
 use Rattle.entries.proofs.Order.{ahead-of, ahead-joined}
 use Rattle.entries.proofs.Runs.{run-none, run-on, run-off, run-whole}
-
--- a store of one word, or none, keeps the length and every other word
-change-length : (m m′ : List ℕ) (to : ℕ → ℕ) (k : ℕ) → length (apply (changeAt m′ to k) m) ≡ length m
-unfolding apply
-change-length m m′ to k = split (eqb (getD m′ k 0) (to (getD m′ k 0))) (λ z. rw z) (λ z. rw z (length-set m k (to (getD m′ k 0))))
-
-change-other : (m m′ : List ℕ) (to : ℕ → ℕ) (k j : ℕ) → k < j → getD (apply (changeAt m′ to k) m) j 0 ≡ getD m j 0
-unfolding apply
-change-other m m′ to k j h =
-    split (eqb (getD m′ k 0) (to (getD m′ k 0))) (λ z. rw z) (λ z. rw z (getD-set-other m k j (to (getD m′ k 0)) 0 (λ e. omega (arith, e))))
-
--- what holds of the places before i, and of place i, holds of those before i + 1
-pub one-more : (test : ℕ → Type 0) (at i : ℕ) → ((k : ℕ) → at ≤ k → k < at + i → test k) → test (at + i) → (k : ℕ) → at ≤ k → k < at + (i + 1) → test k
-one-more test at i h here k lo hi =
-    split (eqb k (at + i))
-    (λ z. subst test (sym (eqb-true k (at + i) z)) here)
-    (λ z. h k lo (let ne = eqb-false k (at + i) z in omega arith))
+pub use Rattle.shapes.proofs.RowLaws.{one-more, row-fills}
 
 module _ (to : ℕ → ℕ) (m0 : List ℕ) (left : Budget) (at : ℕ) where
   pub record InRow (m : List ℕ) (more : Budget) (i : ℕ) : Type 0 where
@@ -112,10 +93,6 @@ module _ (word : ℕ) (m0 : List ℕ) (left : Budget) (at : ℕ) where
             ∙ sym (ap (λ (x : List Store). run left x m0) (joined-append (λ j. storeOf j word ∷ []) i 1 at));
         count = omega (arith, k .0, s .count);
       }
-
--- a row of words that all change is stored whole
-pub row-fills : (m : List ℕ) (word n at : ℕ) → every (differs m word) n at ≡ true → rowStores m (λ w. word) n at ≡ fillStores word n at
-row-fills m word n at h = joined-cong (changeAt m (λ w. word)) (λ k. storeOf k word ∷ []) n at (λ k lo hi. rw (not-true-false (eqb (getD m k 0) word) (every-in (differs m word) n at h k lo hi)))
 
 -- a row of no entries changes nothing
 pub row-none : (to : ℕ → ℕ) (m0 : List ℕ) (left : Budget) (at n : ℕ) → n ≡ 0 → (all : Bool) (l : Budget) (m : List ℕ) → out all l m ≡ run left (rowStores m0 to n at) m0 → m ≡ m0

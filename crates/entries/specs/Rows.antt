@@ -1,43 +1,22 @@
--- Rows of neighbouring words: each stored if it changes, or all stored.
+-- Rows of neighbouring words, and those of entries that are to say their pieces.
 use mathlib.Core.Path.{_≡_}
-use mathlib.Core.Bool.{Bool, not}
-use mathlib.Core.List.{List, [], _∷_}
-use Prim.Native.Nat.{ℕ, _+_, _*_, _≤_, _<_}
-use lib.Dec.{eqb}
+use mathlib.Core.List.{List}
+use Prim.Native.Nat.{ℕ, _+_, _≤_, _<_}
 use lib.ListN.{getD}
-use Rattle.model.specs.Numbers.{if_then_else_, joined}
 use Rattle.model.specs.Entry as entry
-use Rattle.model.specs.Stores as stores
-use Rattle.table.specs.Stored.{storeOf}
-use Rattle.table.specs.Board.{board, EACHPIECE, PIECEENTRY}
+use Rattle.shapes.specs.Rows as rows
+use Rattle.table.specs.Board.{board}
 use Rattle.entries.specs.Ahead.{Ahead}
-
--- the store of word k, which is to become what `to` makes of it, if it changes; and those of n words from at
-abbrev pub changeAt : List ℕ → (ℕ → ℕ) → ℕ → List stores.Store
-changeAt m to k = if eqb (getD m k 0) (to (getD m k 0)) then [] else storeOf k (to (getD m k 0)) ∷ []
-
-abbrev pub rowStores : List ℕ → (ℕ → ℕ) → ℕ → ℕ → List stores.Store
-rowStores m to n at = joined (changeAt m to) n at
-
--- those of n words from at that are all stored
-abbrev pub fillStores : ℕ → ℕ → ℕ → List stores.Store
-fillStores word n at = joined (λ k. storeOf k word ∷ []) n at
-
--- word k is another than this one
-abbrev pub differs : List ℕ → ℕ → ℕ → Bool
-differs m word k = not (eqb (getD m k 0) word)
+pub use Rattle.shapes.specs.Rows.{changeAt, rowStores, fillStores, differs}
 
 -- the TYPE 6 entry that says the same as an entry without an L1 page; zero for any other
 abbrev pub piecesOf : entry.Entry → ℕ
-piecesOf (entry.flat p) = PIECEENTRY + p * EACHPIECE
-piecesOf (entry.pieces info) = PIECEENTRY + info
-piecesOf (entry.table t) = 0
-piecesOf entry.invalid = 0
+piecesOf = rows.piecesOf board
 
 abbrev pub piecesWord : ℕ → ℕ
-piecesWord w = piecesOf (entry.decode board w)
+piecesWord = rows.piecesWord board
 
 -- ahead is the row of the words from at, n at the most, up to the first with an L1 page
 abbrev pub PiecesAhead : List ℕ → ℕ → ℕ → Type 0
 PiecesAhead m n at =
-    (c : ℕ) → c ≤ n → ((k : ℕ) → at ≤ k → k < at + c → piecesWord (getD m k 0) ≡ 0 → ⊥) → Ahead m (rowStores m piecesWord c at)
+    (c : ℕ) → c ≤ n → ((k : ℕ) → at ≤ k → k < at + c → piecesWord (getD m k 0) ≡ 0 → ⊥) → Ahead m (rows.rowStores m piecesWord c at)

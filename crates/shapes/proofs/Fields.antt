@@ -1,18 +1,18 @@
--- Numbers by their digits: what the laws of entries and of forms are made from.
-use mathlib.Core.Path.{_≡_, refl, sym, ap, ap₂, _∙_}
+-- Numbers by their digits, and runs of a test: what the laws of entries and of forms are made from.
+use mathlib.Core.Path.{_≡_, sym, ap, ap₂, _∙_}
 use mathlib.Core.Bool.{Bool, true, false, _&&_, true≢false}
 use mathlib.Core.List.{List}
-use Prim.Native.Nat.{ℕ, zero, suc, _+_, _*_, _-_, _^_, _≤_, _<_}
-use native.Mathlib.Nat.{mul-zero, mul-suc, pow-zero, pow-suc, zero-add, add-zero, lt-of-lt-of-le, pow-le-pow-right}
+use Prim.Native.Nat.{ℕ, zero, suc, _+_, _*_, _-_, _/_, _^_, _≤_, _<_}
+use native.Mathlib.Nat.{mul-zero, mul-suc, mul-add, add-mul, mul-assoc, mul-one, one-mul, suc-mul, pow-zero, pow-suc, pow-succ', lt-of-lt-of-le, pow-le-pow-right, mul-div-cancel, le-div-iff-mul-le, div-lt-iff-lt-mul}
 use native.Mathlib.Omega.{arith}
 use native.Mathlib.Numerals.{add-one}
 use lib.Dec.{eqb, ltb}
 use lib.Pow.{pow-add}
 use borrow.Author.Tests.{eqb-true, eqb-false, eq-eqb, ne-eqb, ltb-true, leb-true}
 use Rattle.model.specs.Layout.{Layout}
-use Rattle.shapes.specs.Words.{mixedAt}
+use Rattle.shapes.specs.Words.{ones, mixedAt}
 use Rattle.laws.proofs.Choices.{split, and-true, and-both}
-use Rattle.laws.proofs.Digits.{pack-lt}
+use Rattle.laws.proofs.Digits.{pack-lt, pack-one, digit-pack}
 use Rattle.laws.proofs.Every.{every-step, every-in}
 use Rattle.model.specs.Entry.{Entry, clean, fieldOf}
 use Rattle.model.specs.Forms.{Request, inRange, permOf}
@@ -25,6 +25,14 @@ pub pow-times : (a c i : ℕ) → a ^ (c * i) ≡ (a ^ c) ^ i
 pow-times a c zero = ap (λ (k : ℕ). a ^ k) (mul-zero c) ∙ pow-zero a ∙ sym (pow-zero (a ^ c))
 pow-times a c (suc i) = ap (λ (k : ℕ). a ^ k) (mul-suc c i) ∙ pow-add a (c * i) c ∙ ap (λ (k : ℕ). k * a ^ c) (pow-times a c i) ∙ sym (pow-suc (a ^ c) i)
 
+-- a quotient rounded up
+module _ (x n : ℕ) {d : ℕ} (pos : 0 < d) where
+  pub ceil-gt : n < (x + (d - 1)) / d → n * d < x
+  ceil-gt h = omega (arith, le-div-iff-mul-le {x = suc n} {y = x + (d - 1)} pos .0 h, suc-mul n d)
+
+  pub ceil-le : (x + (d - 1)) / d ≤ n → x ≤ n * d
+  ceil-le h = omega (arith, div-lt-iff-lt-mul {x = x + (d - 1)} {y = suc n} pos .0 (omega arith), suc-mul n d)
+
 -- a lent page, as numbers
 pub lent-in : (F : Frame) (p : ℕ) → lent F p ≡ true → (F .first ≤ p) × (p < F .first + F .pages)
 unfolding lent
@@ -34,23 +42,27 @@ pub index-add : (F : Frame) (p i : ℕ) → indexOf F p 0 + i ≡ indexOf F p i
 unfolding indexOf
 index-add F p i = omega arith
 
--- ---- runs of a test
+-- ---- one digit throughout
 
-and-assoc : (a b c : Bool) → (a && (b && c)) ≡ ((a && b) && c)
-and-assoc true b c = refl
-and-assoc false b c = refl
+-- 11..1 in base d + 1, d times, is one less than a power
+ones-times : (d n s : ℕ) → pack (suc d) (λ k. 1) n s * d + 1 ≡ suc d ^ n
+unfolding pack
+ones-times d zero s = omega (arith, pow-zero (suc d))
+ones-times d (suc n) s =
+    let P : ℕ = pack (suc d) (λ k. 1) n (suc s) in
+    let more : suc d * (P * d + 1) ≡ suc d * suc d ^ n = ap (λ (k : ℕ). suc d * k) (ones-times d n (suc s)) in
+    omega (arith, more, pow-succ' (suc d) n, add-mul 1 (suc d * P) d, one-mul d, mul-assoc (suc d) P d, mul-add (suc d) (P * d) 1, mul-one (suc d))
 
-pub every-append : (test : ℕ → Bool) (a n s : ℕ) → every test (a + n) s ≡ (every test a s && every test n (s + a))
-unfolding every
-every-append test zero n s = ap₂ (λ (x y : ℕ). every test x y) (zero-add n) (sym (add-zero s))
-every-append test (suc a) n s =
-    let u : suc a + n ≡ suc (a + n) = omega arith in
-    let v : suc s + a ≡ s + suc a = omega arith in
-    ap (λ (x : ℕ). every test x s) u
-    ∙ every-step test (a + n) s
-    ∙ ap (λ (x : Bool). test s && x) (every-append test a n (suc s))
-    ∙ and-assoc (test s) (every test a (suc s)) (every test n (suc s + a))
-    ∙ ap₂ (λ (x : Bool) (y : ℕ). x && every test n y) (sym (every-step test a s)) v
+pub pack-const : (d p n s : ℕ) → 0 < d → pack (suc d) (λ k. p) n s ≡ p * ones (suc d) n
+pack-const d p n s pos =
+    let P : ℕ = pack (suc d) (λ k. 1) n 0 in
+    let a : P * d ≡ suc d ^ n - 1 = omega (arith, ones-times d n 0) in
+    let b : suc d - 1 ≡ d = omega arith in
+    pack-one (suc d) p n s 0 ∙ ap (λ (k : ℕ). p * k) (sym (mul-div-cancel P pos) ∙ ap₂ (λ (x y : ℕ). x / y) a (sym b))
+
+-- so each digit of it is that one
+pub const-digit : (d p n i : ℕ) → 0 < d → p < suc d → i < n → digit (suc d) (p * ones (suc d) n) i ≡ p
+const-digit d p n i pos low h = ap (λ (w : ℕ). digit (suc d) w i) (sym (pack-const d p n 0 pos)) ∙ digit-pack (suc d) (λ k. p) (λ k. low) n 0 i h
 
 -- ---- a number put together from its highest digit down
 
@@ -66,6 +78,9 @@ module _ (base : ℕ) (f : ℕ → ℕ) where
 pub outside : (q : Request) (old s k : ℕ) → inRange q (s + k) ≡ false → digit 16 old k ≡ mixedAt q old s (s + k)
 outside q old s k out = let e : k ≡ s + k - s = omega arith in rw out (ap (digit 16 old) e)
 
+pub pack-fits : (base : ℕ) (f : ℕ → ℕ) → ((k : ℕ) → f k < base) → (n j s : ℕ) → j ≤ n → pack base f j s < base ^ n
+pack-fits base f low n j s h = lt-of-lt-of-le (pack-lt base f low j s) (pow-le-pow-right {n = base} (omega (arith, low 0)) {i = j} {j = n} h)
+
 -- ---- the fields of an L1 entry before the edit
 
 abbrev pub old : Frame → List ℕ → Entry → ℕ → ℕ
@@ -79,7 +94,28 @@ pub field-clean : (L : Layout) (w i : ℕ) → clean L w ≡ true → i < L .fie
 unfolding permOf fieldOf clean
 field-clean L w i h l = rw (every-in (λ k. ltb (digit 16 w k) 4) (L .fields) 0 h i (omega arith) (omega arith))
 
--- ---- a test of a run, from the highest down
+-- ---- a test of a run: what is left of it at i
+
+module _ (test : ℕ → Bool) (n s i : ℕ) (h : i < n) where
+  every-turn : every test (n - i) (s + i) ≡ (test (s + i) && every test (n - (i + 1)) (s + (i + 1)))
+  every-turn =
+      let a : n - i ≡ suc (n - (i + 1)) = omega arith in
+      let b : suc (s + i) ≡ s + (i + 1) = omega arith in
+      ap (λ (k : ℕ). every test k (s + i)) a
+      ∙ every-step test (n - (i + 1)) (s + i)
+      ∙ ap (λ (k : ℕ). test (s + i) && every test (n - (i + 1)) k) b
+
+  pub every-next : test (s + i) ≡ true → every test (n - i) (s + i) ≡ every test (n - (i + 1)) (s + (i + 1))
+  every-next z = every-turn ∙ rw z
+
+  pub every-stop : test (s + i) ≡ false → every test (n - i) (s + i) ≡ false
+  every-stop z = every-turn ∙ rw z
+
+pub every-none : (test : ℕ → Bool) (n s : ℕ) → n ≡ 0 → every test n s ≡ true
+unfolding every
+every-none test n s z = ap (λ (k : ℕ). every test k s) z
+
+-- and from the highest down
 
 pub every-down : (test : ℕ → Bool) (n j : ℕ) → j < n → every test j (n - j) ≡ true → test (n - 1 - j) ≡ true → every test (j + 1) (n - (j + 1)) ≡ true
 every-down test n j h e z =
@@ -91,9 +127,6 @@ every-down test n j h e z =
 
 pub every-fail : (test : ℕ → Bool) (n k : ℕ) → k < n → test k ≡ false → every test n 0 ≡ false
 every-fail test n k h z = split (every test n 0) (λ y. absurd (true≢false (sym (every-in test n 0 y k (omega arith) (omega arith)) ∙ z))) (λ y. y)
-
-pub pack4-fits : (n : ℕ) (f : ℕ → ℕ) → ((k : ℕ) → f k < 4) → (j s : ℕ) → j ≤ n → pack 4 f j s < 4 ^ n
-pack4-fits n f low j s h = lt-of-lt-of-le (pack-lt 4 f low j s) (pow-le-pow-right {n = 4} (omega arith) {i = j} {j = n} h)
 
 pub eqb-swap : (a b : ℕ) → eqb a b ≡ eqb b a
 eqb-swap a b = split (eqb a b) (λ z. z ∙ sym (eq-eqb b a (sym (eqb-true a b z)))) (λ z. z ∙ sym (ne-eqb b a (λ y. eqb-false a b z (sym y))))

@@ -1,8 +1,28 @@
 --   Shape       what the laws ask of a layout
 --   Fields      numbers by their digits
+--   InRange     a page in the range, and one outside
+--   SpliceLaws  words spliced from the old one and the asked permission
 --   EntryLaws   the words of an L1 page, before the edit and after it
 --   FormLaws    the finished form of a block
+--   EvenLaws    the finished form of a block that is read without an L1 page
+--   GibLaws     the blocks of a GiB
+--   CountLaws   the new pages of an edit, of which only the blocks at the ends of the range take any
+--   PageLaws    the L1 page of a block
+--   BlockLaws   several blocks of one GiB at once
+--   RowLaws     rows of neighbouring words
+--   Order       where an edit stands between two of its stores
+--   SlotLaws    slots one after another, and the words of a page to zero
 pub mod Shape
 pub mod Fields
+pub mod InRange
+pub mod SpliceLaws
 pub mod EntryLaws
 pub mod FormLaws
+pub mod EvenLaws
+pub mod GibLaws
+pub mod CountLaws
+pub mod PageLaws
+pub mod BlockLaws
+pub mod RowLaws
+pub mod Order
+pub mod SlotLaws

@@ -1,2 +1,12 @@
 --   Words    an L1 entry as it stands, and as an edit leaves it
+--   Blocks   a block and a range
+--   Pages    the L1 page of a block
+--   Rows     rows of neighbouring words
+--   Ahead    where an edit stands between two of its stores
+--   Slots    the slots
 pub mod Words
+pub mod Blocks
+pub mod Pages
+pub mod Rows
+pub mod Ahead
+pub mod Slots

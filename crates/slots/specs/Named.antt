@@ -1,29 +1,19 @@
 -- The slots: what a call asks of the one it names, and the SDIDs in use.
-use mathlib.Core.Bool.{Bool, _&&_, _||_, not}
-use mathlib.Core.List.{List, map}
+use mathlib.Core.Bool.{Bool}
+use mathlib.Core.List.{List}
 use Prim.Native.Nat.{ℕ}
-use lib.Dec.{eqb, ltb}
-use Rattle.model.specs.Numbers.{member}
-use Rattle.model.specs.Layout.{slotCount, maxSdid}
-use Rattle.model.specs.Register.{sdidOf}
-use Rattle.model.specs.Sound.{Slot, register, isOpen, openRegisters}
-use Rattle.model.specs.Calls.{slotAt}
+use Rattle.model.specs.Sound.{Slot}
+use Rattle.shapes.specs.Slots as slots
 use Rattle.table.specs.Board.{board}
-
--- 4: "slot above 7; empty for close or edit; in use for open"
-abbrev pub notOpen : List Slot → ℕ → Bool
-notOpen slots s = not (ltb s slotCount) || not (isOpen (slotAt slots s))
-
-abbrev pub notEmpty : List Slot → ℕ → Bool
-notEmpty slots s = not (ltb s slotCount) || isOpen (slotAt slots s)
+pub use Rattle.shapes.specs.Slots.{notOpen, notEmpty}
 
 -- a slot is open with this SDID
 abbrev pub holds : Slot → ℕ → Bool
-holds slot sdid = isOpen slot && eqb sdid (sdidOf board (register slot))
+holds = slots.holds board
 
 abbrev pub openSdids : List Slot → List ℕ
-openSdids slots = map (sdidOf board) (openRegisters slots)
+openSdids = slots.openSdids board
 
 -- 8: "SDID above 63 or held by another open slot"
 abbrev pub badSdid : List Slot → ℕ → Bool
-badSdid slots sdid = ltb maxSdid sdid || member sdid (openSdids slots)
+badSdid = slots.badSdid board

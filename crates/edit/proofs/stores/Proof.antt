@@ -47,16 +47,16 @@ mul-b c = let k = known (c .before) in record { fits = omega (arith, k .ends) }
 loop-holds : tie.Need-loop-holds Inv-loop μ-loop
 loop-holds c =
     let a = c .before .before .before .args in
-    turn-start (a .edit .f) (a .words .now) (requestOf (a .edit .q)) (a .edit .root .0) (freeList (a .free)) (a .limit) (known (c .before)) _ _ _ refl refl
+    turn-start (known (c .before)) refl refl
 
 gib-at-requires : tie.Need-gib-at-requires Inv-loop μ-loop
 gib-at-requires c κs =
     let l = c .before .before in
     let a = l .before .before .before .before .args in (
-      turn-rooted (a .edit .f) (a .words .now) (requestOf (a .edit .q)) (a .edit .root .0) (freeList (a .free)) (a .limit) _ (l .loop .words) (l .loop .b) (l .loop .gib) (l .loop .next) (l .loop .left) (l .loop .inv) (omega arith),
-      turn-room (a .edit .f) (a .words .now) (requestOf (a .edit .q)) (a .edit .root .0) (freeList (a .free)) (a .limit) _ (l .loop .words) (l .loop .b) (l .loop .gib) (l .loop .next) (l .loop .left) (l .loop .inv) (omega arith),
+      turn-rooted (l .loop .inv) (omega arith),
+      turn-room (l .loop .inv) (omega arith),
       fair (l .loop .inv .k),
-      turn-flag (a .edit .f) (a .words .now) (requestOf (a .edit .q)) (a .edit .root .0) (freeList (a .free)) (a .limit) _ (l .loop .words) (l .loop .b) (l .loop .gib) (l .loop .next) (l .loop .left) (l .loop .inv) (omega arith),
+      turn-flag (l .loop .inv) (omega arith),
     )
 
 next-blocks-requires : tie.Need-next-blocks-requires Inv-loop μ-loop
@@ -64,14 +64,14 @@ next-blocks-requires c κs =
     let l = c .before .before .before .before in
     let a = l .before .before .before .before .args in
     let t = l .loop .inv in (
-      turn-rooted (a .edit .f) (a .words .now) (requestOf (a .edit .q)) (a .edit .root .0) (freeList (a .free)) (a .limit) _ (l .loop .words) (l .loop .b) (l .loop .gib) (l .loop .next) (l .loop .left) t (omega arith),
-      turn-room (a .edit .f) (a .words .now) (requestOf (a .edit .q)) (a .edit .root .0) (freeList (a .free)) (a .limit) _ (l .loop .words) (l .loop .b) (l .loop .gib) (l .loop .next) (l .loop .left) t (omega arith),
+      turn-rooted t (omega arith),
+      turn-room t (omega arith),
       fair (t .k),
       c .before .gib-at .ensures .2,
       omega (arith, t .going .taken, t .k .few),
-      turn-fresh (a .edit .f) (a .words .now) (requestOf (a .edit .q)) (a .edit .root .0) (freeList (a .free)) (a .limit) _ (l .loop .words) (l .loop .b) (l .loop .gib) (l .loop .next) (l .loop .left) t (omega arith)
+      turn-fresh t (omega arith)
           (c .before .gib-at .result) (c .before .gib-at .ensures),
-      turn-ahead (a .edit .f) (a .words .now) (requestOf (a .edit .q)) (a .edit .root .0) (freeList (a .free)) (a .limit) _ (l .loop .words) (l .loop .b) (l .loop .gib) (l .loop .next) (l .loop .left) t (omega arith)
+      turn-ahead t (omega arith)
           (c .before .gib-at .result) (c .before .gib-at .ensures),
     )
 
@@ -80,7 +80,7 @@ same-length c =
     let l = c .before .before .before .before .before .before .before .before .before in
     let a = l .before .before .before .before .args in
     let t = l .loop .inv in
-    c .before .before .before .before .next-blocks .kept .1 .0 ∙ size (a .edit .f) (a .words .now) (requestOf (a .edit .q)) (a .edit .root .0) (freeList (a .free)) (t .k) (a .limit) (l .loop .words) (l .loop .b) (l .loop .next) (l .loop .left) (t .going)
+    c .before .before .before .before .next-blocks .kept .1 .0 ∙ size (t .going)
 
 returns : tie.Need-returns Inv-loop μ-loop
 returns c =
@@ -90,7 +90,7 @@ returns c =
     let r = c .before .before .before .before .next-blocks in
     let g = c .before .before .before .before .before .before .gib-at in
     let z = out-cut (r .result .all) (r .result .left) (r .last .1 .0) (not-true (r .result .all) (c .if1 .taken)) in
-    sym z ∙ turn-cut (a .edit .f) (a .words .now) (requestOf (a .edit .q)) (a .edit .root .0) (freeList (a .free)) (a .limit) _ (l .loop .words) (l .loop .b) (l .loop .gib) (l .loop .next) (l .loop .left) t (c .before .before .before .before .before .before .before .before .loop-test .taken)
+    sym z ∙ turn-cut t (c .before .before .before .before .before .before .before .before .loop-test .taken)
     (g .result) (g .ensures) (r .result .count) (r .ensures .within) _ (r .ensures .made) z
 
 add-b : tie.Need-add-b Inv-loop μ-loop
@@ -110,7 +110,7 @@ loop-again c =
     let r = c .before .before .before .before .before .before .next-blocks in
     let g = c .before .before .before .before .before .before .before .before .gib-at in
     let z = out-whole (r .result .all) (r .result .left) (r .last .1 .0) (not-false (r .result .all) (c .before .before .if1 .left)) in
-    turn-next (a .edit .f) (a .words .now) (requestOf (a .edit .q)) (a .edit .root .0) (freeList (a .free)) (a .limit) _ (l .loop .words) (l .loop .b) (l .loop .gib) (l .loop .next) (l .loop .left) t (c .before .before .before .before .before .before .before .before .before .before .loop-test .taken)
+    turn-next t (c .before .before .before .before .before .before .before .before .before .before .loop-test .taken)
     (g .result) (g .ensures) (r .result .count) (r .ensures .within) _ (r .ensures .made) z (r .result .next) (r .ensures .pages)
 
 same-length-2 : tie.Need-same-length-2 Inv-loop μ-loop
@@ -118,13 +118,13 @@ same-length-2 c =
     let l = c .before in
     let a = l .before .before .before .before .args in
     let t = l .loop .inv in
-    size (a .edit .f) (a .words .now) (requestOf (a .edit .q)) (a .edit .root .0) (freeList (a .free)) (t .k) (a .limit) (l .loop .words) (l .loop .b) (l .loop .next) (l .loop .left) (t .going)
+    size (t .going)
 
 returns-2 : tie.Need-returns-2 Inv-loop μ-loop
 returns-2 c =
     let l = c .before in
     let a = l .before .before .before .before .args in
-    turn-end (a .edit .f) (a .words .now) (requestOf (a .edit .q)) (a .edit .root .0) (freeList (a .free)) (a .limit) _ (l .loop .words) (l .loop .b) (l .loop .gib) (l .loop .next) (l .loop .left) (l .loop .inv) (c .loop-test .left)
+    turn-end (l .loop .inv) (c .loop-test .left)
 
 pub stores-spec : {M : Type 1} → statement M
 stores-spec =

@@ -2,6 +2,7 @@
 use mathlib.Core.Path.{_≡_, _∙_}
 use Prim.Native.Nat.{_+_, _-_}
 use native.Mathlib.Omega.{arith}
+use Rattle.table.specs.Board.{board}
 use Rattle.types.specs.Views.{entryOf, requestOf}
 use Rattle.entries.proofs.NewPage.{New, new-start, new-ahead, new-next, new-cut, new-end, new-good, new-lent}
 use Rattle.entries.proofs.fresh.old_entries.Statement.{statement}
@@ -34,7 +35,7 @@ old-fill-requires c κs =
       new-lent inv (s .pre .5),
       s .pre .6,
       λ k lo hi. s .pre .7 k (omega (arith, inv .past)) (omega (arith, inv .past, end .0, end .1)),
-      λ k lo hi. end .2 _ _ k lo hi,
+      λ k lo hi. end .2 (record { layout = board; paw = _; first = _; pages = _ }) _ k lo hi,
       new-ahead inv (u .same-until .result - l .loop .i) (omega (arith, end .0, end .1)) (s .pre .3 .small) (s .pre .6),
     )
 

@@ -1,0 +1,36 @@
+-- Rows of neighbouring words: each stored if it changes, or all stored.
+use mathlib.Core.Bool.{Bool, not}
+use mathlib.Core.List.{List, [], _∷_}
+use Prim.Native.Nat.{ℕ, _+_, _*_, _^_}
+use lib.Dec.{eqb}
+use lib.ListN.{getD}
+use Rattle.model.specs.Numbers.{if_then_else_, joined}
+use Rattle.model.specs.Layout.{Layout}
+use Rattle.model.specs.Entry as entry
+use Rattle.model.specs.Stores as stores
+use Rattle.shapes.specs.Words.{flatInfo}
+
+-- the store of word k, which is to become what `to` makes of it, if it changes; and those of n words from at
+abbrev pub changeAt : List ℕ → (ℕ → ℕ) → ℕ → List stores.Store
+changeAt m to k = if eqb (getD m k 0) (to (getD m k 0)) then [] else record { at = k; word = to (getD m k 0) } ∷ []
+
+abbrev pub rowStores : List ℕ → (ℕ → ℕ) → ℕ → ℕ → List stores.Store
+rowStores m to n at = joined (changeAt m to) n at
+
+-- those of n words from at that are all stored
+abbrev pub fillStores : ℕ → ℕ → ℕ → List stores.Store
+fillStores word n at = joined (λ k. record { at = k; word = word } ∷ []) n at
+
+-- word k is another than this one
+abbrev pub differs : List ℕ → ℕ → ℕ → Bool
+differs m word k = not (eqb (getD m k 0) word)
+
+-- the entry by pieces that says the same as an entry without an L1 page; zero for any other
+abbrev pub piecesOf : Layout → entry.Entry → ℕ
+piecesOf L (entry.flat p) = L .pieceType * 2 ^ L .infoBits + flatInfo L p
+piecesOf L (entry.pieces info) = L .pieceType * 2 ^ L .infoBits + info
+piecesOf L (entry.table t) = 0
+piecesOf L entry.invalid = 0
+
+abbrev pub piecesWord : Layout → ℕ → ℕ
+piecesWord L w = piecesOf L (entry.decode L w)
