@@ -14,7 +14,7 @@
 --   Stores     the ordered list of an edit's stores, and its new pages
 --   Fence      which fence a call asks for
 --   Calls      open, close and edit: refusals, answer, memory, slots, fence
---   Demands    the second and the third demand, as statements
+--   Demands    the second and the third demand of document 00, as statements
 pub mod Numbers
 pub mod Layout
 pub mod Register

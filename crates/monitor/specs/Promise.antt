@@ -49,7 +49,7 @@ module _ (f : Frame) (slots : List ℕ) (slot start size : ℕ) (permission : Pe
     -- every address of every domain reads as before the first call or as after the whole edit; the next call is accepted, stores no more than
     -- the bound, and made whole ends in the same permissions, with as many pages free
     pub steady : Steady (frameOf f m) slots request m m′
-    -- "after" is what was asked
+    -- and what the whole edit leaves is what was asked
     pub asks : Done (frameOf f m) slots request m (whole (frameOf f m) slots request m)
 
   -- the same whatever is asked: the edit is accepted, or it is refused and no byte changes
@@ -66,7 +66,7 @@ module _ (f : Frame) (slots : List ℕ) (slot start size : ℕ) (permission : Pe
     pub slotsKept : r .slots ≡ slots
     -- 1,536 on RV64, 2,560 on RV32
     pub few : count ≤ 2 ^ (board .maxPaw - 25) - 2 + 2 * suc (board .words)
-    -- "after" is what was asked: the permission on every address of the range, every other address of every domain as it read
+    -- what the whole edit leaves is what was asked: the permission on every address of the range, every other address of every domain as it read
     pub asks : Done (frameOf f m) slots request m (whole (frameOf f m) slots request m)
     -- every address of every domain reads as before the first call or as after the whole edit
     pub steady : BeforeOrAfter (frameOf f m) slots m (whole (frameOf f m) slots request m) m′
