@@ -14,7 +14,7 @@ use native.Mathlib.Omega.{arith}
 use borrow.Author.Tests.{eqb-true, eqb-false, leb-true}
 use Rattle.laws.proofs.Choices.{split}
 use lib.Dec.{eqb, leb}
-use lib.ListN.{getD, length, length-set, set, take}
+use lib.ListN.{getD, length, take}
 use lib.Seq.{take-all}
 use Rattle.model.specs.Numbers.{if_then_else_}
 use Rattle.model.specs.Frame as Frames
@@ -23,6 +23,7 @@ use Rattle.model.specs.Stores.{Store, apply}
 use Rattle.model.specs.Calls as model
 use Rattle.model.specs.Calls.{editRefusal, editSlot, editWith, made, refuse, storeList}
 use Rattle.model.specs.Demands.{Accepted, BeforeOrAfter, Done, SamePermissions, Steady, Typed, calls, freeCount, stopped, whole}
+use Rattle.theory.proofs.Along.{apply-length}
 use Rattle.theory.proofs.Demands.{demand2, demand3, edit-stopped, one-more, most-stores}
 use Rattle.types.specs.declared.Frame.{Frame}
 use Rattle.types.specs.declared.Permission.{Permission}
@@ -54,12 +55,6 @@ allIn (model.refusedWith n) = false
 allIn model.opened = false
 allIn model.closed = false
 allIn (model.edited count all) = all
-
--- stores keep the number of words
-apply-length : (ss : List Store) (m : List ℕ) → length (apply ss m) ≡ length m
-unfolding apply
-apply-length [] m = refl
-apply-length (s ∷ ss) m = apply-length ss (set m (s .at) (s .word)) ∙ length-set m (s .at) (s .word)
 
 permission-small : (p : Permission) → permissionNumber p < 4
 permission-small None = omega arith
