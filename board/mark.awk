@@ -16,7 +16,7 @@ function names(text, set,   a, m, k) { m = split(text, a, " "); for (k = 1; k <=
 function fail(message) { print "mark: " name ": " message > "/dev/stderr"; bad = 1 }
 # The word after `key`.
 function after(text, key,   i, t) { i = index(text, key); if (!i) return ""; t = substr(text, i + length(key)); sub(/[,) ].*/, "", t); return t }
-# The alloca or the load that a pointer comes from; "" for an argument, a global or a call's result.
+# The alloca or the load that a pointer comes from; `""` for an argument, a global or a call's result.
 function origin(v) { while (v in base) v = base[v]; return ((v in is_alloca) || (v in is_load)) ? v : "" }
 function reference(v,   o) { o = origin(v); return o == "" || (o in is_load) && (o in is_reference) }
 # Whether the memory at pointer v may hold a reference.

@@ -1,4 +1,4 @@
-/* "The stores, in order, block by block upward through the touched GiBs." */
+/* "The stores, in order, block by block upward through the touched GiBs" */
 #include "second.h"
 
 #include "bytes.h"
@@ -59,7 +59,7 @@ static void table_block(struct lister *lister, uint64_t block, const uint8_t *af
         add(lister, lister->root, block, UINT64_C(4) << 44 | page, block);
 }
 
-/* "Otherwise a block whose 2 MiB pieces are each of one permission is TYPE 6; any other block is TYPE 4." */
+/* "otherwise a block whose 2 MiB pieces are each of one permission is TYPE 6; any other block is TYPE 4." */
 static void mixed_block(struct lister *lister, uint64_t block, const uint8_t *after)
 {
     uint64_t pieces = 0;
@@ -101,7 +101,7 @@ size_t second_edit(const struct table *table, const struct edit *edit, struct st
     return lister.count;
 }
 
-/* "Takes the lowest free page, zeroes it." */
+/* "takes the lowest free page, zeroes it" */
 size_t second_open(const struct table *table, struct store list[PAGE_ENTRIES])
 {
     struct lister lister = {table, NULL, list, 0, 0, table->first, NULL};

@@ -36,7 +36,7 @@ static void memory(const char *after)
     put('\n');
 }
 
-/* "Slot 0 opened with SDID 5"; the free pages hold something, as they do on a board. */
+/* "slot 0 opened with SDID 5"; the free pages hold something, as they do on a board. */
 static void new_domain(size_t pages)
 {
     count = pages * PAGE_ENTRIES;

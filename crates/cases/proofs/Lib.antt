@@ -6,11 +6,13 @@
 --   Calls      an edit made of these; two refusals of open
 --   Compute    what unfolds when a case is computed; the quick edit of a state
 --   States     each state that the cases start from, in numbers
---   Claim      the one claim over all cases
+--   Answers    what is asked of a state, computed
+--   Claim      the one claim over the cases marked *, and the others
 pub mod Passes
 pub mod Stores
 pub mod Sounds
 pub mod Calls
 pub mod Compute
 pub mod States
+pub mod Answers
 pub mod Claim

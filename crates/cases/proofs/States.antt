@@ -9,7 +9,7 @@ use Rattle.model.specs.Frame.{Frame}
 use Rattle.model.specs.Forms.{Request}
 use Rattle.model.specs.Fence.{Fence, noFence, domainFence, addressFence}
 use Rattle.model.specs.Calls.{Outcome, Reply, opened, edited}
-use Rattle.cases.specs.Bench.{board, smallBoard, none, rx, readWrite, ask, most, opens, edits, blank, new, afterC, afterF, afterG, afterH, cut512, cut513, small0, small1, small2, afterL, afterM, afterM2, withZero, unfinished, afterO}
+use Rattle.cases.specs.Bench.{board, smallBoard, none, rx, readWrite, ask, most, opens, edits, blank, new, afterC, afterF, afterG, afterH, cut512, cut513, small0, small1, small2, afterL, afterM, afterM2, withZero, unfinished, afterO, onePageShort, afterT}
 use Rattle.cases.proofs.Passes.{pasted, sets-pasted}
 use Rattle.cases.proofs.Calls.{quickOpen}
 use Rattle.cases.proofs.Compute.{compute, quick, run, run-open}
@@ -234,3 +234,34 @@ O-run = refl
 pub O-is : afterO ≡ outcomeO
 unfolding afterO
 O-is = run 32 0x80000 16 (ask 0x40200000 0x200000 none) most O0-is O-run
+
+-- ---- T
+
+abbrev withoutOne : List ℕ → List ℕ
+withoutOne m = set (withPage m) 512 0x2222222222222220
+
+unfoldable pub memoryT0 : List ℕ
+memoryT0 = withoutOne (sets (replicate 8192 0) 32 (0x0000400000080001 ∷ 0x00006000AAAAAAA8 ∷ replicate 30 0x00006000AAAAAAAA))
+
+unfoldable pub outcomeT0 : Outcome
+outcomeT0 = left opened memoryT0 slots5 noFence
+
+T0-is : onePageShort ≡ outcomeT0
+unfolding onePageShort memoryT0 outcomeT0 slots5
+T0-is =
+    ap (λ (m : List ℕ). left opened (set m 512 0x2222222222222220) (set (replicate 8 0) 0 0x1140000000080000) noFence)
+    (sets-pasted (sets (replicate 8192 0) 32 (0x0000400000080001 ∷ 0x00006000AAAAAAA8 ∷ replicate 30 0x00006000AAAAAAAA)) 512 (replicate 512 0x2222222222222222))
+
+unfoldable pub outcomeT : Outcome
+outcomeT =
+    left (edited 1 true)
+    (withoutOne (sets (replicate 8192 0) 32 (0x00006000AAAAAAAA ∷ 0x00006000AAAAAAA8 ∷ replicate 30 0x00006000AAAAAAAA)))
+    slots5 (domainFence 5)
+
+T-run : quick 32 0x80000 16 outcomeT0 (ask 0x40000000 0x1000 readWrite) most ≡ outcomeT
+unfolding compute memoryT0 outcomeT0 slots5 outcomeT
+T-run = refl
+
+pub T-is : afterT ≡ outcomeT
+unfolding afterT
+T-is = run 32 0x80000 16 (ask 0x40000000 0x1000 readWrite) most T0-is T-run

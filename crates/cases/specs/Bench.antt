@@ -1,10 +1,11 @@
 -- The board, the domains and the edits that the cases speak of.
 use mathlib.Core.List.{List, [], _∷_, map}
-use Prim.Native.Nat.{ℕ}
+use Prim.Native.Nat.{ℕ, _+_}
 use lib.ListN.{getD, length, replicate, set}
 use lib.Seq.{sets}
 use Rattle.model.specs.Layout.{rv64}
 use Rattle.model.specs.Frame.{Frame, wordAt}
+use Rattle.model.specs.Bytes.{byteAt}
 use Rattle.model.specs.Access.{Kind, Answer}
 use Rattle.model.specs.Lookup.{Privilege, supervisor, lookup}
 use Rattle.model.specs.Sound.{Slot, emptySlot, roots, freePages}
@@ -13,13 +14,16 @@ use Rattle.model.specs.Stores.{Store}
 use Rattle.model.specs.Fence.{noFence}
 use Rattle.model.specs.Calls.{Outcome, opened, openSlot, closeSlot, editSlot, storeList}
 
--- ---- the board: "PAW 32, 16 pages from page 0x80000", and one of two pages for case K
+-- ---- the board: "PAW 32, 16 pages from page 0x80000"; one of two pages for case K; one whose frame breaks its bounds, since page 0 is lent
 
 abbrev pub board : Frame
 board = record { layout = rv64; paw = 32; first = 0x80000; pages = 16 }
 
 abbrev pub smallBoard : Frame
 smallBoard = record { layout = rv64; paw = 32; first = 0x80000; pages = 2 }
+
+abbrev pub badBoard : Frame
+badBoard = record { layout = rv64; paw = 32; first = 0; pages = 16 }
 
 -- ---- what is asked
 
@@ -32,9 +36,12 @@ rx = 1
 abbrev pub readWrite : ℕ
 readWrite = 2
 
--- an edit of slot 0
+-- an edit of a slot; of slot 0
+abbrev pub askOf : ℕ → ℕ → ℕ → ℕ → Request
+askOf slot start size permission = record { slot = slot; start = start; size = size; permission = permission }
+
 abbrev pub ask : ℕ → ℕ → ℕ → Request
-ask start size permission = record { slot = 0; start = start; size = size; permission = permission }
+ask start size permission = askOf 0 start size permission
 
 -- a limit that lets every edit finish
 abbrev pub most : ℕ
@@ -47,12 +54,19 @@ module _ (F : Frame) where
   abbrev pub edits : Outcome → Request → ℕ → Outcome
   edits o q limit = editSlot F (o .memory) (o .slots) q limit
 
-abbrev pub closes : Outcome → ℕ → Outcome
-closes o s = closeSlot board (o .memory) (o .slots) s
+  abbrev pub closesOn : Outcome → ℕ → Outcome
+  closesOn o s = closeSlot F (o .memory) (o .slots) s
 
--- a lookup by slot 0's register, outside M mode
+  -- a lookup by a register, outside M mode
+  abbrev pub lookBy : ℕ → Outcome → ℕ → Kind → Answer
+  lookBy r o address kind = lookup F (o .memory) r supervisor address kind
+
+abbrev pub closes : Outcome → ℕ → Outcome
+closes = closesOn board
+
+-- by slot 0's register
 abbrev pub look : Outcome → ℕ → Kind → Answer
-look o address kind = lookup board (o .memory) (getD (o .slots) 0 0) supervisor address kind
+look o = lookBy board (getD (o .slots) 0 0) o
 
 -- the register of slot s, L2 entry b of slot 0's root, entry i of its first L1 page
 abbrev pub registerAt : Outcome → ℕ → ℕ
@@ -63,6 +77,10 @@ l2 o b = wordAt board (o .memory) 0x80000 b
 
 abbrev pub l1 : Outcome → ℕ → ℕ
 l1 o i = wordAt board (o .memory) 0x80001 i
+
+-- the eight bytes of the lent memory from byte n on
+abbrev pub eightBytes : Outcome → ℕ → List ℕ
+eightBytes o n = map (λ i. byteAt rv64 (o .memory) (n + i)) (0 ∷ 1 ∷ 2 ∷ 3 ∷ 4 ∷ 5 ∷ 6 ∷ 7 ∷ [])
 
 abbrev pub freePagesOf : Outcome → ℕ
 freePagesOf o = length (freePages board (o .memory) (roots board (o .slots)))
@@ -76,6 +94,10 @@ wordsStored o q = map (λ s. s .word) (storeList board (o .memory) (o .slots) q)
 -- memory of n words and slots, all zero
 abbrev pub blank : ℕ → Outcome
 blank n = record { reply = opened; memory = replicate n 0; slots = replicate 8 emptySlot; fence = noFence }
+
+-- a memory with a register in slot 0
+abbrev stands : List ℕ → ℕ → Outcome
+stands m r = record { reply = opened; memory = m; slots = set (replicate 8 emptySlot) 0 r; fence = noFence }
 
 -- "slot 0 opened with SDID 5"
 unfoldable pub new : Outcome
@@ -128,22 +150,29 @@ withZero = opens board new 1 0
 -- O: a table in unfinished form: GiB 1 is all rw, block 32 by an L1 page and the others by 1G types
 unfoldable pub unfinished : Outcome
 unfinished =
-    record {
-      reply = opened;
-      memory = sets (set (sets (replicate 8192 0) 33 (replicate 31 0x0000200000000000)) 32 0x0000400000080001) 512 (replicate 512 0x2222222222222222);
-      slots = set (replicate 8 emptySlot) 0 0x1140000000080000;
-      fence = noFence;
-    }
+    stands (sets (set (sets (replicate 8192 0) 33 (replicate 31 0x0000200000000000)) 32 0x0000400000080001) 512 (replicate 512 0x2222222222222222)) 0x1140000000080000
 
 unfoldable pub afterO : Outcome
 afterO = edits board unfinished (ask 0x40200000 0x200000 none) most
 
 -- P: case C's table, but that INFO of L2 entry 32 has bit 32 set: page 0x100080001, which is not lent
 unfoldable pub topDigit : Outcome
-topDigit =
-    record {
-      reply = opened;
-      memory = set (set (replicate 8192 0) 512 0x2) 32 0x0000400100080001;
-      slots = set (replicate 8 emptySlot) 0 0x1140000000080000;
-      fence = noFence;
-    }
+topDigit = stands (set (set (replicate 8192 0) 512 0x2) 32 0x0000400100080001) 0x1140000000080000
+
+-- R: block 32 is rw, and a bit of WPRI is set in the register
+unfoldable pub wpriSet : Outcome
+wpriSet = stands (set (replicate 8192 0) 32 0x0000200000000000) 0x1140100000080000
+
+-- S: PAW 32 has 128 blocks; L2 entry 128 breaks every rule, and L2 entry 129 would name page 0x80001
+unfoldable pub pastTheBlocks : Outcome
+pastTheBlocks = stands (set (set (replicate 8192 0) 128 0xFFFFFFFFFFFFFFFF) 129 0x0000400000080001) 0x1140000000080000
+
+-- T: GiB 1 is rw but for a piece of block 33 and page 0x40000, which is why block 32 has an L1 page
+unfoldable pub onePageShort : Outcome
+onePageShort =
+    stands
+    (set (sets (sets (replicate 8192 0) 32 (0x0000400000080001 ∷ 0x00006000AAAAAAA8 ∷ replicate 30 0x00006000AAAAAAAA)) 512 (replicate 512 0x2222222222222222)) 512 0x2222222222222220)
+    0x1140000000080000
+
+unfoldable pub afterT : Outcome
+afterT = edits board onePageShort (ask 0x40000000 0x1000 readWrite) most

@@ -1,5 +1,5 @@
 -- The cases. A line `-- CASE. what is asked` stands above each statement, whose right side is what is answered.
--- A to K are document 01's; those that it marks * are A to C and E to J. L to P are beside them.
+-- A to K are document 01's. Those that it marks * are one list by themselves (`markedCases`); D, K and our own, L to U, stand beside it.
 use mathlib.Core.Path.{_≡_}
 use mathlib.Core.Bool.{true, false}
 use mathlib.Core.List.{List, [], _∷_}
@@ -8,18 +8,19 @@ use lib.ListN.{take, drop, replicate}
 use Rattle.model.specs.Layout.{rv64}
 use Rattle.model.specs.Frame.{pageOf}
 use Rattle.model.specs.Walk.{pn0, pn1, pn2}
-use Rattle.model.specs.Access.{itself, tableRead, fetch, load, store, allowed, fault}
-use Rattle.model.specs.Fence.{noFence, domainFence, addressFence}
-use Rattle.model.specs.Calls.{refusedWith, opened, edited}
-use Rattle.cases.specs.Bench.{board, smallBoard, none, rx, readWrite, ask, most, opens, edits, closes, look, registerAt, l2, l1, freePagesOf, wordsStored, new, afterC, afterF, afterG, afterH, cut512, cut513, small0, small1, small2, afterL, afterM, afterM2, withZero, unfinished, afterO, topDigit}
+use Rattle.model.specs.Access.{itself, tableRead, fetch, load, store, refused, allowed, fault}
+use Rattle.model.specs.Fence.{domainFence, addressFence}
+use Rattle.model.specs.Calls.{refusedWith, closed, edited}
+use Rattle.cases.specs.Bench.{board, smallBoard, badBoard, none, readWrite, ask, askOf, most, opens, edits, closes, closesOn, look, lookBy, registerAt, l2, l1, eightBytes, freePagesOf, wordsStored, new, afterC, afterF, afterG, afterH, cut512, cut513, small1, small2, afterL, afterM, afterM2, withZero, afterO, topDigit, wpriSet, pastTheBlocks, afterT}
 
 -- every one of these statements holds
 pub data AllOf : List (Type 0) → Type 1 where
   done : AllOf []
   both : {C : Type 0} {Cs : List (Type 0)} → C → AllOf Cs → AllOf (C ∷ Cs)
 
-abbrev pub cases : List (Type 0)
-cases =
+-- "Cases marked * are the set to prove, as one list under a single claim about the definitions."
+abbrev pub markedCases : List (Type 0)
+markedCases =
     -- A. register of the new domain
     (registerAt new 0 ≡ 0x1140000000080000)
     -- A. load 0x40000000 on the new domain
@@ -38,18 +39,6 @@ cases =
     ∷ (l2 afterC 32 ≡ 0x0000400000080001)
     -- C. L2 entries 33 to 63
     ∷ (take 31 (drop 33 (afterC .memory)) ≡ replicate 31 0x0000600000000000)
-    -- D. C with limit 512
-    ∷ (cut512 .reply ≡ edited 512 false)
-    -- D. then load 0x40000000
-    ∷ (look cut512 0x40000000 (itself load) ≡ fault 5)
-    -- D. C with limit 513
-    ∷ (cut513 .reply ≡ edited 513 false)
-    -- D. then load 0x40000000
-    ∷ (look cut513 0x40000000 (itself load) ≡ allowed)
-    -- D. and load 0x40001000
-    ∷ (look cut513 0x40001000 (itself load) ≡ fault 5)
-    -- D. C again from there
-    ∷ (edits board cut513 (ask 0x40000000 0x1000 readWrite) most .reply ≡ edited 31 true)
     -- E. after C, store 0x40000FFF
     ∷ (look afterC 0x40000FFF (itself store) ≡ allowed)
     -- E. fetch there
@@ -86,6 +75,22 @@ cases =
     ∷ (edits board new (ask 0x80010000 0x1000 readWrite) most .reply ≡ edited 544 true)
     -- J. none, 0x8000F000, one page
     ∷ (edits board new (ask 0x8000F000 0x1000 none) most .reply ≡ edited 0 true)
+    ∷ []
+
+abbrev pub otherCases : List (Type 0)
+otherCases =
+    -- D. C with limit 512
+    (cut512 .reply ≡ edited 512 false)
+    -- D. then load 0x40000000
+    ∷ (look cut512 0x40000000 (itself load) ≡ fault 5)
+    -- D. C with limit 513
+    ∷ (cut513 .reply ≡ edited 513 false)
+    -- D. then load 0x40000000
+    ∷ (look cut513 0x40000000 (itself load) ≡ allowed)
+    -- D. and load 0x40001000
+    ∷ (look cut513 0x40001000 (itself load) ≡ fault 5)
+    -- D. C again from there
+    ∷ (edits board cut513 (ask 0x40000000 0x1000 readWrite) most .reply ≡ edited 31 true)
     -- K. two pages lent, edit: rw, 0x40000000, one page
     ∷ (small1 .reply ≡ edited 544 true)
     -- K. then rw, 0x42000000, one page
@@ -132,4 +137,48 @@ cases =
     ∷ (look topDigit 0x40000000 (itself load) ≡ fault 5)
     -- P. close its slot
     ∷ (closes topDigit 0 .reply ≡ refusedWith 3)
+    -- Q. after C, bytes 256 to 263 of the lent memory, which are L2 entry 32
+    ∷ (eightBytes afterC 256 ≡ 0x01 ∷ 0x00 ∷ 0x08 ∷ 0x00 ∷ 0x00 ∷ 0x40 ∷ 0x00 ∷ 0x00 ∷ [])
+    -- R. a bit of WPRI set in the register, load 0x40000000
+    ∷ (look wpriSet 0x40000000 (itself load) ≡ allowed)
+    -- R. close its slot
+    ∷ (closes wpriSet 0 .reply ≡ refusedWith 3)
+    -- S. an L2 entry past the last block that breaks the rules, and one that would name a page: free pages
+    ∷ (freePagesOf pastTheBlocks ≡ 15)
+    -- S. close its slot
+    ∷ (closes pastTheBlocks 0 .reply ≡ closed)
+    -- T. a block that has its L1 page for one page's sake, edit: rw, that page
+    ∷ (afterT .reply ≡ edited 1 true)
+    -- T. L2 entry 32, its one store
+    ∷ (l2 afterT 32 ≡ 0x00006000AAAAAAAA)
+    -- T. its fence
+    ∷ (afterT .fence ≡ domainFence 5)
+    -- U. lowest number first: all wrong at once, edit: slot 8, rw, 0x8000F000, length 0x800, on P's table, page 0 lent
+    ∷ (edits badBoard topDigit (askOf 8 0x8000F000 0x800 readWrite) most .reply ≡ refusedWith 1)
+    -- U. the same with the right frame
+    ∷ (edits board topDigit (askOf 8 0x8000F000 0x800 readWrite) most .reply ≡ refusedWith 3)
+    -- U. the same on the new domain
+    ∷ (edits board new (askOf 8 0x8000F000 0x800 readWrite) most .reply ≡ refusedWith 4)
+    -- U. the same in slot 0
+    ∷ (edits board new (ask 0x8000F000 0x800 readWrite) most .reply ≡ refusedWith 5)
+    -- U. two pages lent and none free, edit: rw, 0x80000000, one page
+    ∷ (edits smallBoard small1 (ask 0x80000000 0x1000 readWrite) most .reply ≡ refusedWith 6)
+    -- U. open slot 8 with SDID 64 on P's table, page 0 lent
+    ∷ (opens badBoard topDigit 8 64 .reply ≡ refusedWith 1)
+    -- U. the same with the right frame
+    ∷ (opens board topDigit 8 64 .reply ≡ refusedWith 3)
+    -- U. the same on the new domain
+    ∷ (opens board new 8 64 .reply ≡ refusedWith 4)
+    -- U. the same in slot 1
+    ∷ (opens board new 1 64 .reply ≡ refusedWith 8)
+    -- U. close slot 8 on P's table, page 0 lent
+    ∷ (closesOn badBoard topDigit 8 .reply ≡ refusedWith 1)
+    -- U. the same with the right frame
+    ∷ (closes topDigit 8 .reply ≡ refusedWith 3)
+    -- U. the same on the new domain
+    ∷ (closes new 8 .reply ≡ refusedWith 4)
+    -- U. lookup by a register of MODE 2, page 0 lent
+    ∷ (lookBy badBoard 0x2140000000080000 new 0x40000000 (itself load) ≡ refused 1)
+    -- U. the same with the right frame
+    ∷ (lookBy board 0x2140000000080000 new 0x40000000 (itself load) ≡ refused 2)
     ∷ []

@@ -11,6 +11,7 @@
 --   Times      how often a number stands in a list; `member`, `distinct` and `each` by it
 --   Sums       sums over a run of numbers and over a list, and what one change does to them
 --   Digits     `digit` and `pack`: what is packed is read back
+--   Bytes      the lent memory by bytes: a store changes those of its word and no other
 --   Splices    a number spliced from the digits of two
 --   Peeks      a word of a page, read by way of the page's parts: the same, and quick
 --   InRange    a page in the range, and one outside, as numbers
@@ -22,6 +23,7 @@ pub mod Lists
 pub mod Times
 pub mod Sums
 pub mod Digits
+pub mod Bytes
 pub mod Splices
 pub mod Peeks
 pub mod PageRuns

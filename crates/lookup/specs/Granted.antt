@@ -1,4 +1,4 @@
--- What a walk finds, as a permission: "none" where it faults, since neither serves any access.
+-- What a walk finds, as a permission: none where it faults, since neither serves any access.
 use Prim.Native.Nat.{ℕ}
 use Rattle.model.specs.Entry.{Found, perm, faults}
 

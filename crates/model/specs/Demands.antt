@@ -1,4 +1,5 @@
--- What is to be shown of edits: the second and the third demand, as statements. Document 01's words stand beside each part.
+-- What is to be shown of edits: the second and the third demand of document 00, as statements. Beside each part stand the words of its demand,
+-- which is named there, or those of document 01 that say what they mean.
 use mathlib.Core.Path.{_≡_}
 use mathlib.Core.Logic.{_⊎_, _≢_}
 use mathlib.Core.Bool.{Bool, true, false}
@@ -40,11 +41,12 @@ module _ (F : Frame) (slots : List Slot) where
   abbrev pub SamePermissions : List ℕ → List ℕ → Type 0
   SamePermissions m m′ = (r : ℕ) → Domain r → (address : ℕ) → SameAt m m′ r address
 
-  -- "every address always reads as before or as after"
+  -- "every address of every domain reads as before the first call or as after the edit made whole at once, never a third thing" (the third
+  -- demand)
   abbrev pub BeforeOrAfter : List ℕ → List ℕ → List ℕ → Type 0
   BeforeOrAfter before afterwards m = (r : ℕ) → Domain r → (address : ℕ) → SameAt m before r address ⊎ SameAt m afterwards r address
 
-  -- "the same number of free pages"
+  -- "the same number of free pages" (the third demand)
   unfoldable pub freeCount : List ℕ → ℕ
   freeCount m = length (freePages F m (roots F slots))
 
@@ -69,10 +71,10 @@ module _ (F : Frame) (slots : List Slot) where
 
     -- ---- Demand 2: what an edit that made all its stores leaves
     pub record Done (m m′ : List ℕ) : Type 0 where
-      -- "A finished edit gives every address of the range the asked permission"
+      -- "After a completed edit each address in the asked range has the asked permission" (the second demand)
       pub inside :
           (address : ℕ) → q .start ≤ address → address < q .start + q .size → walk F m′ (rootOf F slots q) (pageOf address) ≡ perm (q .permission)
-      -- "and every other address of every domain reads as before": of the edited domain, and of each other
+      -- "and every other address, in this domain and the rest, reads as it did" (the second demand): of the edited domain, and of each other
       pub outside : (address : ℕ) → (address < q .start) ⊎ (q .start + q .size ≤ address) → SameAt m′ m (registerFor slots q) address
       pub others : (r : ℕ) → Domain r → r ≢ registerFor slots q → (address : ℕ) → SameAt m′ m r address
       -- the next call finds a sound table
@@ -92,18 +94,19 @@ module _ (F : Frame) (slots : List Slot) where
 
     -- ---- Demand 3: what holds of the memory m′ that calls leave which were stopped anywhere; m is the one that the first found
     pub record Steady (m m′ : List ℕ) : Type 0 where
-      -- "every retry is accepted"
+      -- "Every one of these calls is accepted." (the third demand, here and in the next three)
       pub accepted : Accepted m′
-      -- "every address always reads as before or as after"
+      -- "After each of their stores, and at each stop, every address of every domain reads as before the first call or as after the edit made
+      -- whole at once"
       pub steady : BeforeOrAfter m (whole m) m′
-      -- "a finished retry ends in the same permissions"
+      -- "Any of the calls that makes all its stores ends in the same permissions"
       pub samePermissions : SamePermissions (whole m′) (whole m)
-      -- "and the same number of free pages"
+      -- "and the same number of free pages as if the edit had never stopped"
       pub sameFree : freeCount (whole m′) ≡ freeCount (whole m)
       -- "With B blocks in the address space the count is at most B - 2 + 1,026, so 1,536 at PAW 34"
       pub fewStores : length (storeList F m′ slots q) ≤ blocks F - 2 + 2 * suc (F .layout .words)
 
-    -- "It is one claim over every list of such numbers k, one k for each call." The memory between any two stores is among those that
-    -- it speaks of: it is what a list of cuts leaves whose last is that store's number
+    -- "It is one claim over every list of such numbers k, one k for each call; a claim about a single call is not enough." The memory between
+    -- any two stores is among those that it speaks of: it is what a list of cuts leaves whose last is that store's number
     abbrev pub Demand3 : Type 0
     Demand3 = (m : List ℕ) → Typed F q m → Accepted m → (ks : List ℕ) → Steady m (calls ks m)

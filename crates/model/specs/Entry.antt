@@ -49,7 +49,7 @@ module _ (L : Layout) where
   encode (table page) = 4 * 2 ^ L .infoBits + page
   encode invalid = 7 * 2 ^ L .infoBits
 
-  -- ---- an L1 entry: fields of four bits, "the low two bits of a field are the permission, the high two are reserved"
+  -- ---- an L1 entry: fields of four bits. "The low two bits of a field are the permission .., the high two are reserved."
 
   -- "The base tests the reserved bits of the selected field only; set, they fault."
   unfoldable pub fieldOf : ℕ → ℕ → Found

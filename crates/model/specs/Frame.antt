@@ -6,7 +6,7 @@ use lib.Dec.{eqb, ltb, leb}
 use lib.ListN.{length, getD}
 use Rattle.model.specs.Layout.{Layout, pageBytes, minPaw, minPages}
 
--- "A frame is: the physical address width PAW, lent table memory of whole pages, and the page number of its first page"
+-- "A frame is: the physical address width PAW .., lent table memory of .. whole pages .., and the page number of its first page"
 pub record Frame : Type 0 where
   pub layout : Layout
   pub paw : ℕ
@@ -18,7 +18,7 @@ unfoldable pub pageOf : ℕ → ℕ
 pageOf address = address / pageBytes
 
 module _ (F : Frame) where
-  -- blocks of the address space: "the first 2^(PAW-25) entries"
+  -- blocks of the address space: "The first 2^(PAW-25) entries of each root"
   unfoldable pub blocks : ℕ
   blocks = 2 ^ (F .paw - 25)
 
@@ -29,7 +29,7 @@ module _ (F : Frame) where
   unfoldable pub lent : ℕ → Bool
   lent page = leb (F .first) page && ltb page (F .first + F .pages)
 
-  -- "PAW (30 to 34), lent table memory of 2 to 256 whole pages, and the page number of its first page, at least 1, with first
+  -- "PAW (30 to 34), lent table memory of 2 to 256 whole pages .., and the page number of its first page, at least 1, with first
   -- page + pages at most 2^(PAW-12)"
   unfoldable pub boundsOk : Bool
   boundsOk =

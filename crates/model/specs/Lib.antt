@@ -6,6 +6,7 @@
 --   Register   mmpt: its fields, and which registers a lookup refuses
 --   Entry      L2 and L1 entries: what a word says, and the word that says it
 --   Frame      the frame and its bounds; the lent memory as words of one entry each
+--   Bytes      the lent memory by bytes
 --   Walk       from a root page and a page number to a permission
 --   Access     kinds of access, what each needs, who may do what, causes
 --   Lookup     the first call, and how an address reads
@@ -14,12 +15,13 @@
 --   Stores     the ordered list of an edit's stores, and its new pages
 --   Fence      which fence a call asks for
 --   Calls      open, close and edit: refusals, answer, memory, slots, fence
---   Demands    the second and the third demand, as statements
+--   Demands    the second and the third demand of document 00, as statements
 pub mod Numbers
 pub mod Layout
 pub mod Register
 pub mod Entry
 pub mod Frame
+pub mod Bytes
 pub mod Walk
 pub mod Access
 pub mod Lookup

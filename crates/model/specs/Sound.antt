@@ -20,7 +20,7 @@ register slot = slot
 abbrev pub emptySlot : Slot
 emptySlot = 0
 
--- "Open": its register is not zero
+-- open: its register is not zero
 unfoldable pub isOpen : Slot → Bool
 isOpen slot = not (eqb (register slot) 0)
 
@@ -75,7 +75,7 @@ module _ (F : Frame) where
     soundEntry (table page) = lent F page && cleanPage page
     soundEntry invalid = false
 
-    -- "root pages inside the lent memory. The first 2^(PAW-25) entries of each root pass the rules above; the rest is never read"
+    -- "root pages inside the lent memory. The first 2^(PAW-25) entries of each root pass the rules above; the rest of the page is never read."
     unfoldable pub soundRoot : ℕ → Bool
     soundRoot root = each (lent F) (rootPages F root) && every (λ b. soundEntry (entryAt F m root b)) (blocks F) 0
 

@@ -1,25 +1,29 @@
 -- Code and demand together. Call `monitor::edit` any number of times with the same request and any limits, and let a watchdog reset the
--- board after any store of any of these calls: if a first call was accepted, the next one is too, and the memory that it leaves reads,
--- at every address of every domain, as before the first call or as after the whole edit.
+-- board after any store of any of these calls. Wherever the last of them ended, the memory reads, at every address of every domain, as before
+-- the first call or as after the whole edit, and if the edit was refused no byte has changed (`recovers`). If a first call was accepted, the
+-- next one is too, and what it answers and leaves is told (`promise`).
 --
 -- The calls are a list of cuts: a call that returns leaves what its limit lets it store, and one that is reset what it had stored. So
 -- `demand3` speaks of them, and the contract's equation says what the answer is.
 use mathlib.Core.Path.{_≡_, refl, sym, ap, ap₂, _∙_, subst}
+use mathlib.Core.Logic.{inl, inr}
 use mathlib.Core.Bool.{Bool, true, false, false≢true}
 use mathlib.Core.List.{List, [], _∷_, _++_}
 use Prim.Native.Nat.{ℕ, zero, suc, _/_, _<_, _≤_, _^_}
 use native.Mathlib.Omega.{arith}
-use borrow.Author.Tests.{eqb-true, leb-true}
+use borrow.Author.Tests.{eqb-true, eqb-false, leb-true}
 use Rattle.laws.proofs.Choices.{split}
 use lib.Dec.{eqb, leb}
-use lib.ListN.{getD, length, length-set, set, take}
+use lib.ListN.{getD, length, take}
 use lib.Seq.{take-all}
+use Rattle.model.specs.Numbers.{if_then_else_}
 use Rattle.model.specs.Frame as Frames
 use Rattle.model.specs.Forms.{Request}
 use Rattle.model.specs.Stores.{Store, apply}
 use Rattle.model.specs.Calls as model
 use Rattle.model.specs.Calls.{editRefusal, editSlot, editWith, made, refuse, storeList}
-use Rattle.model.specs.Demands.{Accepted, BeforeOrAfter, Done, SamePermissions, Typed, calls, freeCount, stopped, whole}
+use Rattle.model.specs.Demands.{Accepted, BeforeOrAfter, Done, SamePermissions, Steady, Typed, calls, freeCount, stopped, whole}
+use Rattle.theory.proofs.Along.{apply-length}
 use Rattle.theory.proofs.Demands.{demand2, demand3, edit-stopped, one-more, most-stores}
 use Rattle.types.specs.declared.Frame.{Frame}
 use Rattle.types.specs.declared.Permission.{Permission}
@@ -28,7 +32,7 @@ use Rattle.types.specs.Views.{permissionNumber, replyOf}
 use Rattle.slots.specs.declared.Outcome.{Outcome}
 use Rattle.types.specs.declared.Reply.{Reply}
 use Rattle.types.specs.declared.Reply.the-variants.{Refused, Opened, Closed, Edited}
-use Rattle.monitor.specs.Promise.{After, Call, Ending, Kept, request, reset, returned}
+use Rattle.monitor.specs.Promise.{After, Call, CrashConsistent, Ending, Kept, Recovers, interrupted, request, reset, returned}
 use Rattle.table.specs.Board.{board, WORDS, ENTRY, frameOf, frameOver}
 use Rattle.range.proofs.Lawful.{board-lawful}
 
@@ -50,12 +54,6 @@ allIn (model.refusedWith n) = false
 allIn model.opened = false
 allIn model.closed = false
 allIn (model.edited count all) = all
-
--- stores keep the number of words
-apply-length : (ss : List Store) (m : List ℕ) → length (apply ss m) ≡ length m
-unfolding apply
-apply-length [] m = refl
-apply-length (s ∷ ss) m = apply-length ss (set m (s .at) (s .word)) ∙ length-set m (s .at) (s .word)
 
 permission-small : (p : Permission) → permissionNumber p < 4
 permission-small None = omega arith
@@ -114,9 +112,31 @@ module _ (f : Frame) (slots : List ℕ) (slot start size : ℕ) (permission : Pe
   unfolding stopped whole
   stopped-whole limit n h = ap (λ (l : List Store). apply l n) (take-all limit (storeList F n slots q) h)
 
+  -- a call that is reset was stopped where the reset came
+  reset-stops : (k : ℕ) (n : List ℕ) → length n ≡ length m → Accepted F slots q n → interrupted f slots slot start size permission k n ≡ stopped F slots q k n
+  unfolding interrupted
+  reset-stops k n h a =
+      ap (λ (G : Frames.Frame). if eqb (editRefusal G n slots q) 0 then stopped G slots q k n else n) (same-frame n h) ∙ rw a
+
+  -- ---- a refused edit
+
   refused-answer : (limit : ℕ) → eqb (editRefusal F m slots q) 0 ≡ false → isEdited (editSlot F m slots q limit .reply) ≡ false
   unfolding editSlot editWith editRefusal refuse
   refused-answer limit n = rw n
+
+  refused-memory : (limit : ℕ) → eqb (editRefusal F m slots q) 0 ≡ false → editSlot F m slots q limit .memory ≡ m
+  unfolding editSlot editWith editRefusal refuse
+  refused-memory limit n = rw n
+
+  unchanged : eqb (editRefusal F m slots q) 0 ≡ false → (es : List Ending) (n : List ℕ) → After f slots slot start size permission es m n → n ≡ m
+  unfolding After interrupted
+  unchanged z [] n h = sym h
+  unchanged z (returned limit r m₁ ∷ es) n h =
+      unchanged z es n (subst (λ (x : List ℕ). After f slots slot start size permission es x n)
+      (ap (λ (o : model.Outcome). o .memory) (h .0) ∙ refused-memory limit z) (h .1))
+  unchanged z (reset k ∷ es) n h = unchanged z es n (rw z at h)
+
+  -- ---- an accepted one
 
   accepted-by : (limit : ℕ) (r : Outcome) (m′ : List ℕ) (count : ℕ) (all : Bool) → Call f slots slot start size permission limit m r m′ → r .reply ≡ Edited count all
       → Accepted F slots q m
@@ -139,13 +159,20 @@ module _ (f : Frame) (slots : List ℕ) (slot start size : ℕ) (permission : Pe
         let at : List ℕ = calls F slots q ks m in
         cuts es (ks ++ (k ∷ [])) n
         (subst (λ (x : List ℕ). After f slots slot start size permission es x n)
-        (ap (λ (G : Frames.Frame). stopped G slots q k at) (same-frame at (calls-length ks m)) ∙ sym (one-more F board-lawful slots q ks k m)) h)
+        (reset-stops k at (calls-length ks m) (demand3 F board-lawful slots q m typed accepted ks .accepted) ∙ sym (one-more F board-lawful slots q ks k m)) h)
 
     asks : Done F slots q m (whole F slots q m)
     asks =
         let n : ℕ = length (storeList F m slots q) in
         subst (Done F slots q m) (edit-stopped F board-lawful slots q m n accepted .0 ∙ stopped-whole n m (omega arith))
         (demand2 F board-lawful slots q m n typed accepted (omega arith))
+
+    -- wherever the last of the calls ended
+    consistent : (es : List Ending) (n : List ℕ) → After f slots slot start size permission es m n → CrashConsistent f slots slot start size permission m n
+    unfolding calls
+    consistent es n h =
+        let cut : (js : List ℕ) × (n ≡ calls F slots q js m) = cuts es [] n h in
+        record { steady = subst (Steady F slots q m) (sym (cut .1)) (demand3 F board-lawful slots q m typed accepted (cut .0)); asks = asks }
 
     -- what one more call after a list of cuts answers and leaves
     next : (ks : List ℕ) (limit : ℕ) (r : Outcome) (n : List ℕ) → Call f slots slot start size permission limit (calls F slots q ks m) r n
@@ -169,6 +196,13 @@ module _ (f : Frame) (slots : List ℕ) (slot start size : ℕ) (permission : Pe
               (demand3 F board-lawful slots q m typed accepted ks .samePermissions);
           sameFree = λ t. ap (freeCount F slots) (stops ∙ stopped-whole limit at (leb-true _ _ t)) ∙ demand3 F board-lawful slots q m typed accepted ks .sameFree;
         }
+
+  -- whatever is asked, and however each of the calls ended: nothing is asked of the next one, which may never be made
+  pub recovers : (es : List Ending) (n : List ℕ) → After f slots slot start size permission es m n → Recovers f slots slot start size permission m n
+  recovers es n h =
+      split (eqb (editRefusal F m slots q) 0)
+      (λ y. let a : Accepted F slots q m = eqb-true _ _ y in inl (a, consistent a es n h))
+      (λ z. inr (eqb-false _ _ z, unchanged z es n h))
 
   -- a first call was accepted, with whatever limit; calls were made and cut, as many as may be; then the next one
   pub promise : (limit : ℕ) (r : Outcome) (m′ : List ℕ) (count : ℕ) (all : Bool) → Call f slots slot start size permission limit m r m′ → r .reply ≡ Edited count all

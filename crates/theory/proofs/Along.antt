@@ -1,12 +1,17 @@
 -- What holds of the memory before, between and after the stores of a list.
-use mathlib.Core.Path.{_≡_, refl}
+use mathlib.Core.Path.{_≡_, refl, sym, ap, _∙_, subst}
+use mathlib.Core.Logic.{_≢_}
 use mathlib.Core.List.{List, [], _∷_, _++_}
-use Prim.Native.Nat.{ℕ, zero, suc, _<_}
+use Prim.Native.Nat.{ℕ, zero, suc, _+_, _*_, _/_, _<_}
 use native.Mathlib.Nat.{not-suc-le-zero, le-of-suc-le-suc}
-use lib.ListN.{length, set, take, getD}
+use lib.ListN.{length, length-set, set, take, getD}
+use Rattle.model.specs.Numbers.{digit}
+use Rattle.model.specs.Layout.{Layout}
 use Rattle.model.specs.Frame.{Frame}
+use Rattle.model.specs.Bytes.{byteAt, entryBytes}
 use Rattle.model.specs.Walk.{entryPage, entryPlace}
 use Rattle.model.specs.Stores.{Store, apply, storeAt, storeL2}
+use Rattle.laws.proofs.Bytes.{store-other-bytes, store-own-bytes}
 use Rattle.theory.proofs.Memory.{put}
 
 pub apply-append : (ss ts : List Store) (m : List ℕ) → apply (ss ++ ts) m ≡ apply ts (apply ss m)
@@ -17,6 +22,12 @@ apply-append (s ∷ ss) ts m = apply-append ss ts (set m (s .at) (s .word))
 pub apply-none : (m : List ℕ) → apply [] m ≡ m
 unfolding apply
 apply-none m = refl
+
+-- stores keep the number of words
+pub apply-length : (ss : List Store) (m : List ℕ) → length (apply ss m) ≡ length m
+unfolding apply
+apply-length [] m = refl
+apply-length (s ∷ ss) m = apply-length ss (set m (s .at) (s .word)) ∙ length-set m (s .at) (s .word)
 
 pub apply-one : (F : Frame) (p i w : ℕ) (m : List ℕ) → apply (storeAt F p i w ∷ []) m ≡ put F m p i w
 unfolding apply storeAt put
@@ -77,3 +88,17 @@ unfolding apply
 next-store [] m k d h = absurd (not-suc-le-zero h)
 next-store (s ∷ ss) m zero d h = refl
 next-store (s ∷ ss) m (suc k) d h = next-store ss (set m (s .at) (s .word)) k d (le-of-suc-le-suc h)
+
+-- the same by bytes: those of its word become the stored word's, and no other changes
+module _ (L : Layout) (ss : List Store) (m : List ℕ) (k : ℕ) (d : Store) (below : k < length ss) where
+  abbrev s : Store
+  s = getD ss k d
+
+  pub next-own-bytes : (i : ℕ) → s .at < length m → i < entryBytes L → byteAt L (apply (take (suc k) ss) m) (s .at * entryBytes L + i) ≡ digit 256 (s .word) i
+  next-own-bytes i inside h =
+      ap (λ (x : List ℕ). byteAt L x (s .at * entryBytes L + i)) (next-store ss m k d below)
+      ∙ store-own-bytes L (apply (take k ss) m) (s .at) (s .word) i (subst (λ (x : ℕ). s .at < x) (sym (apply-length (take k ss) m)) inside) h
+
+  pub next-other-bytes : (n : ℕ) → n / entryBytes L ≢ s .at → byteAt L (apply (take (suc k) ss) m) n ≡ byteAt L (apply (take k ss) m) n
+  next-other-bytes n ne =
+      ap (λ (x : List ℕ). byteAt L x n) (next-store ss m k d below) ∙ store-other-bytes L (apply (take k ss) m) (s .at) (s .word) n ne

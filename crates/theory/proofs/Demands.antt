@@ -94,7 +94,8 @@ module _ (paw first pages : ℕ) (slots : List Slot) (q : Request) where
   pub rv32-demand3 : Demand3 board32 slots q
   rv32-demand3 = demand3 board32 rv32-lawful slots q
 
-  -- "no call takes more than 1,536 stores": an accepted edit's PAW is 30 to 34, whatever the cuts before it
+  -- "No call of an edit takes more than 1,536 stores." (document 00, the third demand): an accepted edit's PAW is 30 to 34, whatever the cuts
+  -- before it
   pub rv64-most : (m : List ℕ) → Typed board64 q m → Accepted board64 slots q m → (ks : List ℕ) → length (storeList board64 (calls board64 slots q ks m) slots q) ≤ 1536
   rv64-most m typed accepted ks =
       let E : Edit = record { F = board64; lawful = rv64-lawful; slots = slots; q = q; low = typed .permission } in

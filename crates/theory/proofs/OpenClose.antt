@@ -1,4 +1,4 @@
--- Opening and closing, as calls: the table stays sound, every other domain reads as before, and a new domain reads "none" everywhere.
+-- Opening and closing, as calls: the table stays sound, every other domain reads as before, and a new domain reads none everywhere.
 -- Assumes what the types of the code say, that there are eight slots, and that the call is accepted.
 use mathlib.Core.Path.{_≡_, refl, sym, ap, ap₂, _∙_, subst}
 use mathlib.Core.Bool.{true, false, not}

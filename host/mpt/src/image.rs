@@ -47,7 +47,7 @@ mod tests {
 
     #[test]
     fn the_sum_is_that_of_any_crc_32() {
-        // 72 bytes: "123456789" eight times, whose CRC-32 was taken by zlib
+        // 72 bytes: `123456789` eight times, whose CRC-32 was taken by zlib
         let text: Vec<u8> = b"123456789".repeat(8);
         let table = from_bytes(FRAME, &text).unwrap();
         assert_eq!(table.words().len(), 1);

@@ -50,8 +50,8 @@ pub fn edit(frame: Frame, words: &mut [u64], slots: &Slots, asked: Asked, limit:
     Ok(Edited { stores: made as u64, all: made == list.len(), fence })
 }
 
-/// "No store made, none. Range of one page and a whole edit of one store into an L1 entry: that
-/// address and SDID. Otherwise the whole domain."
+/// "Fence asked: no store made, none. Range of one page and a whole edit of one store into an L1
+/// entry: that address and SDID. Otherwise the whole domain."
 fn fence(frame: Frame, words: &[u64], register: Register, asked: Asked, list: &[Store], made: usize) -> Fence {
     let root = frame.word_index(words, register.ppn).expect("an open slot's root is lent");
     let in_root = |store: &Store| (root..root + frame.blocks()).contains(&store.index);
@@ -147,7 +147,7 @@ impl Stores<'_> {
         }
     }
 
-    /// "All 512 entries of a new page in order, then the L2 entry."
+    /// "all 512 entries of a new page in order, then the L2 entry."
     fn new_page(&mut self, entry: usize, block: &[Permission]) {
         let Some(page) = self.free.next() else {
             self.short_of_pages = true;
@@ -160,7 +160,7 @@ impl Stores<'_> {
         self.list.push(Store { index: entry, word: L2::Pages(page).to_word() });
     }
 
-    /// "Those L1 entries that change, in order, in the same page."
+    /// "those L1 entries that change, in order, in the same page."
     fn change_page(&mut self, page: u64, block: &[Permission]) {
         let at = self.frame.word_index(self.words, page).expect("an L1 page is lent");
         debug_assert!(at + PAGE_WORDS <= self.words.len());

@@ -55,7 +55,7 @@ fn push_fields(map: &mut Vec<Permission>, entry: u64) {
     map.extend((0..16).map(|number| field(entry, number).expect("no reserved bit is set")));
 }
 
-/// "A GiB of one permission is 32 entries of that 1G type; otherwise a block whose 2 MiB pieces
+/// "a GiB of one permission is 32 entries of that 1G type; otherwise a block whose 2 MiB pieces
 /// are each of one permission is TYPE 6; any other block is TYPE 4."
 pub fn finished_form(map: &[Permission]) -> Vec<Form> {
     match one_permission(map) {

@@ -60,7 +60,7 @@ impl Access {
         }
     }
 
-    /// "The fault is that of the original access."
+    /// "The fault is that of the original access: fetch 1, load 5, store 7."
     fn cause(self) -> u64 {
         match self.original {
             Original::Fetch => 1,

@@ -8,7 +8,7 @@ struct Bench {
     slots: Slots,
 }
 
-/// "PAW 32, 16 pages from page 0x80000, slot 0 opened with SDID 5."
+/// "PAW 32, 16 pages from page 0x80000, slot 0 opened with SDID 5"
 fn bench() -> Bench {
     bench_of(16)
 }

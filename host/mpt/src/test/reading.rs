@@ -59,7 +59,8 @@ fn domains_and_blocks(table: &Table) -> impl Iterator<Item = (Register, u64)> + 
     open.flat_map(move |register| (0..frame(table).blocks() as u64).map(move |block| (register, block)))
 }
 
-/// "Every page of every domain reads as before the first call or as after the whole edit."
+/// "every address of every domain reads as before the first call or as after the edit made whole
+/// at once" (document 00, the third demand), asked of every page.
 pub fn reads_as_before_or_after(now: &Table, before: &Table, after: &Table) -> Result<(), String> {
     for (register, block) in domains_and_blocks(now) {
         let [now, before, after] = [now, before, after].map(|table| Block::of(table, register, block));
