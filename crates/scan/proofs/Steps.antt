@@ -62,6 +62,11 @@ claimed-lent F k page {j} said = go (lent F page) refl
     go true q = refl
     go false q = let bad : marked j ≡ unsound = said ∙ rw q in cc
 
+-- and one that is not lent is not claimed
+pub unlent-claim : (F : Frame) (k : List Bool) (page : ℕ) → lent F page ≡ false → unsound ≡ claimOf F k page
+unfolding claimOf
+unlent-claim F k page h = rw h
+
 -- ---- the words of a root, from word r on, are its entries
 
 pub words-are-entries : (F : Frame) (m : List ℕ) (root r n : ℕ) (k : List Bool) → lent F root ≡ true → r ≡ indexOf F root 0

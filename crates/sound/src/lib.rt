@@ -53,12 +53,12 @@ fn claim(f: Frame, n: usize, page: PageNumber, used: &mut [bool; 256]) -> bool
 }
 
 // The page that a TYPE 4 entry names.
-fn link(f: Frame, words: &[Word], page: PageNumber, used: &mut [bool; 256]) -> bool
+fn link(f: Frame, words: &[Word], table: PageNumber, used: &mut [bool; 256]) -> bool
     requires { ⌜ boundsOk (frameOf f (now words)) ≡ true ⌝ }
-    ensures { λ r. ⌜ answer r (now (used .exit)) ≡ linkStep (frameOf f (now (words .entry))) (now (words .entry)) (now (used .entry)) (page .0) ⌝ }
+    ensures { λ r. ⌜ answer r (now (used .exit)) ≡ linkStep (frameOf f (now (words .entry))) (now (words .entry)) (now (used .entry)) (table .0) ⌝ }
 {
-    if claim(f, words.len(), page, used) {
-        return clean(words, lent::page_at(f, words, page));
+    if claim(f, words.len(), table, used) {
+        return clean(words, lent::page_at(f, words, table));
     }
     false
 }

@@ -8,6 +8,7 @@ use Rattle.model.specs.Frame.{lent}
 use Rattle.table.specs.Board.{frameOver}
 use Rattle.laws.proofs.Frames.{bounds, lent-in}
 use Rattle.scan.specs.Scan.{claimOf, markOf}
+use Rattle.scan.proofs.Steps.{unlent-claim}
 use Rattle.sound.proofs.claim.Statement.{statement}
 use Rattle.sound.proofs.claim.Tie as tie
 
@@ -42,8 +43,7 @@ unfolding claimOf markOf
 returns-2 c = rw (lent-here (c .before .before .before .before), c .if2 .left)
 
 returns-3 : tie.Need-returns-3
-unfolding claimOf
-returns-3 c = rw (sym (c .before .is-lent .ensures) ∙ c .if1 .left)
+returns-3 c = unlent-claim _ _ _ (sym (c .before .is-lent .ensures) ∙ c .if1 .left)
 
 pub claim-spec : {M : Type 1} → statement M
 claim-spec =

@@ -10,7 +10,7 @@ use Rattle.range.proofs.bounds.on_lent_pages.Statement.{statement}
 use Rattle.range.proofs.bounds.on_lent_pages.Tie as tie
 
 returns : tie.Need-returns
-returns c = rw (eq-eqb _ _ (c .if1 .taken))
+returns c = rw (eq-eqb _ 0 (c .if1 .taken))
 
 add-if2 : tie.Need-add-if2
 add-if2 c = let s = c .before .before in record { fits = omega (arith, lent-ends (frameOver (s .args .f) (s .args .n)) (lit≤ tt) (s .pre .0)) }

@@ -7,7 +7,7 @@ use Rattle.slots.proofs.named.holds.Tie as tie
 
 returns : tie.Need-returns
 unfolding isOpen
-returns c = rw (eq-eqb _ _ (c .if1 .taken))
+returns c = rw (eq-eqb _ 0 (c .if1 .taken))
 
 sdid-requires : tie.Need-sdid-requires
 sdid-requires c κs = search needs

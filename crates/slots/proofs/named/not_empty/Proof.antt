@@ -7,7 +7,7 @@ use Rattle.slots.proofs.named.not_empty.Statement.{statement}
 use Rattle.slots.proofs.named.not_empty.Tie as tie
 
 returns : tie.Need-returns
-returns c = rw (le-ltb _ _ (c .if1 .taken))
+returns c = rw (le-ltb _ 8 (c .if1 .taken))
 
 mul-result : tie.Need-mul-result
 mul-result c = search needs

@@ -13,7 +13,7 @@ not-not true = refl
 not-not false = refl
 
 returns : tie.Need-returns
-returns c = rw (le-ltb _ _ (c .if1 .taken))
+returns c = rw (le-ltb _ 8 (c .if1 .taken))
 
 mul-result : tie.Need-mul-result
 mul-result c = search needs

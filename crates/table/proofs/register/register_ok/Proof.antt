@@ -15,7 +15,7 @@ mode-requires c κs = search needs
 
 returns : tie.Need-returns
 unfolding registerOk
-returns c = rw (c .mode .ensures .0, c .before .sdid .ensures .0, c .before .before .ppn .ensures .0)
+returns c = rw (← c .mode .ensures .0, ← c .before .sdid .ensures .0, ← c .before .before .ppn .ensures .0)
 
 pub register-ok-spec : {M : Type 1} → statement M
 register-ok-spec = tie.close (tie.spec ppn-requires sdid-requires mode-requires returns)
