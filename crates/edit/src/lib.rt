@@ -6,7 +6,7 @@ use types::pages::PAGE_BYTES;
 use types::pages::GIB_BYTES;
 use types::pages::GIB_BLOCKS;
 use types::Budget;
-use types::Went;
+use types::Progress;
 use types::Gib;
 use forms::gibs::gib_at;
 use table::lent::page_at;
@@ -22,8 +22,8 @@ use table::lent::block_count;
 use table::board::Word;
 ghost use mathlib.Core.Path.{_≡_};
 ghost use mathlib.Core.Bool.{true};
-ghost use Rattle.edit.specs.Done.{fenceAfter, IsMade};
-ghost use Rattle.edit.specs.Kinds.{Accepted, wholeList};
+ghost use Rattle.edit.specs.Made.{fenceAfter, IsMade};
+ghost use Rattle.edit.specs.Blocks.{Prepared, wholeList};
 ghost use Rattle.entries.specs.Run.{out, run};
 ghost use Rattle.model.specs.Fence.{inRoot};
 ghost use Rattle.model.specs.Frame.{lent, boundsOk};
@@ -31,13 +31,13 @@ ghost use Rattle.types.specs.Views.{fenceOf, requestOf, freeList};
 ghost use Rattle.table.specs.Board.{frameOf};
 
 // The stores of an edit that no refusal fits, in order, up to the limit. free: the free pages, lowest first.
-fn stores(
+fn store_blocks(
     edit: Edit,
     words: &mut [Word],
     free: Free,
     limit: Budget,
-) -> Went
-    requires { ⌜ Accepted (frameOf (edit .f) (now words)) (now words) (requestOf (edit .q)) (edit .root .0) (freeList free) ⌝ }
+) -> Progress
+    requires { ⌜ Prepared (frameOf (edit .f) (now words)) (now words) (requestOf (edit .q)) (edit .root .0) (freeList free) ⌝ }
     ensures { λ r. ⌜ out (r .all) (r .left) (now (words .exit))
         ≡ run limit (wholeList (frameOf (edit .f) (now (words .entry))) (now (words .entry)) (requestOf (edit .q)) (edit .root .0) (freeList free)) (now (words .entry)) ⌝ }
 {
@@ -50,7 +50,7 @@ fn stores(
         gib = gib_at(edit, words, b, gib);
         let step = next_blocks(edit, words, gib, b, free, next, left);
         if !step.all {
-            return Went {
+            return Progress {
                 all: false,
                 left: left,
             };
@@ -60,7 +60,7 @@ fn stores(
         next = step.next;
         b += step.count;
     }
-    Went {
+    Progress {
         all: true,
         left: left,
     }
@@ -117,7 +117,7 @@ pub fn make(
     free: Free,
     limit: u64,
 ) -> Made
-    requires { ⌜ Accepted (frameOf (edit .f) (now words)) (now words) (requestOf (edit .q)) (edit .root .0) (freeList free) ⌝ }
+    requires { ⌜ Prepared (frameOf (edit .f) (now words)) (now words) (requestOf (edit .q)) (edit .root .0) (freeList free) ⌝ }
     ensures { λ r. ⌜ IsMade (frameOf (edit .f) (now (words .entry))) (requestOf (edit .q)) (edit .root .0) (sdid .0)
         (wholeList (frameOf (edit .f) (now (words .entry))) (now (words .entry)) (requestOf (edit .q)) (edit .root .0) (freeList free)) limit (now (words .entry)) (now (words .exit)) r ⌝ }
 {
@@ -125,7 +125,7 @@ pub fn make(
         more: limit,
         last: 0,
     };
-    let went = stores(edit, words, free, start);
+    let went = store_blocks(edit, words, free, start);
     let rest = went.left;
     let all = went.all;
     if all {

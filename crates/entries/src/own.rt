@@ -1,7 +1,7 @@
 // The stores of a block that has an L1 page of its own, and keeps it.
 use types::pages::BLOCK_PAGES;
 use types::Budget;
-use types::Went;
+use types::Progress;
 use crate::put::put_changed;
 use forms::words::after_word;
 use table::lent::page_at;
@@ -34,7 +34,7 @@ fn same_entry(
     b: u64,
     i: u64,
     left: Budget,
-) -> Went
+) -> Progress
     ghost { List Store }
     requires { λ ss. ⌜ ss ≡ ifChanged (frameOf (edit .f) (now words)) (now words) (t .0) i (l1Word (frameOf (edit .f) (now words)) (now words) (requestOf (edit .q)) (entry.table (t .0)) b i) ⌝ }
     requires { λ ss. ⌜ (b < BLOCKS) × (i < WORDS) × Fair (edit .q) × Good (frameOf (edit .f) (now words)) (now words) (entry.table (t .0)) × Ahead (now words) ss ⌝ }
@@ -52,7 +52,7 @@ fn same_table(
     t: PageNumber,
     b: u64,
     left: Budget,
-) -> Went
+) -> Progress
     ghost { List Store }
     requires { λ ss. ⌜ ss ≡ sameTable (frameOf (edit .f) (now words)) (now words) (requestOf (edit .q)) (entry.table (t .0)) b (t .0) ⌝ }
     requires { λ ss. ⌜ (b < BLOCKS) × Fair (edit .q) × Good (frameOf (edit .f) (now words)) (now words) (entry.table (t .0)) × Ahead (now words) ss ⌝ }
@@ -69,7 +69,7 @@ fn same_table(
         let rest = went.left;
         more = rest;
     }
-    Went {
+    Progress {
         all: true,
         left: more,
     }
@@ -82,14 +82,14 @@ pub fn own_table(
     t: PageNumber,
     b: u64,
     left: Budget,
-) -> Went
+) -> Progress
     ghost { List Store }
     requires { λ ss. ⌜ ss ≡ sameTable (frameOf (edit .f) (now words)) (now words) (requestOf (edit .q)) (entry.table (t .0)) b (t .0) ⌝ }
     requires { λ ss. ⌜ (b < BLOCKS) × Fair (edit .q) × Good (frameOf (edit .f) (now words)) (now words) (entry.table (t .0)) × Ahead (now words) ss ⌝ }
     ensures { λ ss r. ⌜ out (r .all) (r .left) (now (words .exit)) ≡ run left ss (now (words .entry)) ⌝ }
 {
     match lies(edit.q, b * BLOCK_PAGES, BLOCK_PAGES) {
-        Place::Outside => Went {
+        Place::Outside => Progress {
             all: true,
             left: left,
         },

@@ -12,7 +12,6 @@ use table::board::EACH_PIECE;
 use table::board::LAST_PIECE;
 use table::board::PIECES;
 use table::board::PIECE_BYTES;
-use table::board::PIECE_INFO;
 use table::board::Word;
 ghost use Rattle.model.specs.Layout.{blockPages};
 ghost use mathlib.Core.Path.{_≡_};
@@ -74,7 +73,7 @@ fn across_form(edit: Edit, words: &[Word], e: Entry, b: u64) -> Form
 {
     match e {
         Entry::Flat(p) => even_form(edit, words, e, b, p * EACH_PIECE),
-        Entry::Pieces(info) => even_form(edit, words, e, b, info % PIECE_INFO),
+        Entry::Pieces(info) => even_form(edit, words, e, b, info),
         Entry::Table(_) => cut_form(edit, words, e, b),
         Entry::Invalid => cut_form(edit, words, e, b),
     }
@@ -90,13 +89,7 @@ fn outside_form(edit: Edit, words: &[Word], e: Entry, b: u64) -> Form
             let info = p * EACH_PIECE;
             Form::Pieces(info)
         }
-        Entry::Pieces(info) => {
-            if info < PIECE_INFO {
-                Form::Pieces(info)
-            } else {
-                pieces_form(edit, words, e, b)
-            }
-        }
+        Entry::Pieces(info) => Form::Pieces(info),
         Entry::Table(_) => pieces_form(edit, words, e, b),
         Entry::Invalid => pieces_form(edit, words, e, b),
     }

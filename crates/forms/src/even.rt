@@ -18,7 +18,7 @@ ghost use mathlib.Core.Bool.{false};
 ghost use Prim.Native.Nat.{_<_, _^_};
 ghost use Rattle.types.specs.Range.{Fair};
 ghost use Rattle.table.specs.Board.{BLOCKS, INFO, frameOf};
-ghost use Rattle.forms.specs.Kinds.{Even, Mixes};
+ghost use Rattle.forms.specs.Permissions.{Even, Mixes};
 ghost use Rattle.model.specs.Forms.{formIn};
 ghost use Rattle.types.specs.Views.{entryOf, requestOf, formOf};
 ghost use Rattle.theory.specs.Rooted.{Good};

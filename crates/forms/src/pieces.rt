@@ -14,7 +14,6 @@ use table::word::piece;
 use table::board::EACH_PIECE;
 use table::board::FIELD;
 use table::board::PIECES;
-use table::board::PIECE_INFO;
 use table::board::PIECE_PAGES;
 use table::board::PIECE_WORDS;
 use table::board::Word;
@@ -25,7 +24,7 @@ ghost use lib.Dec.{eqb};
 ghost use lib.ListN.{length, getD};
 ghost use Rattle.types.specs.Range.{Fair, Lies};
 ghost use Rattle.table.specs.Board.{BLOCKS, WORDS, FIELDS, PIECES, PIECE, ROW, frameOf};
-ghost use Rattle.forms.specs.Kinds.{PieceIs};
+ghost use Rattle.forms.specs.Permissions.{PieceIs};
 ghost use Rattle.model.specs.Forms.{allAre, afterIn};
 ghost use Rattle.model.specs.Numbers.{every};
 ghost use Rattle.types.specs.Views.{entryOf, requestOf};
@@ -106,7 +105,7 @@ fn old_block_is(edit: Edit, words: &[Word], e: Entry, b: u64, p: u64) -> bool
 {
     match e {
         Entry::Flat(o) => o == p,
-        Entry::Pieces(info) => info % PIECE_INFO == p * EACH_PIECE,
+        Entry::Pieces(info) => info == p * EACH_PIECE,
         Entry::Table(_) => pieces_are(edit, words, e, b, p),
         Entry::Invalid => pieces_are(edit, words, e, b, p),
     }

@@ -20,7 +20,7 @@ ghost use mathlib.Core.Path.{_≡_};
 ghost use Prim.Native.Nat.{_+_, _*_, _/_, _%_, _≤_, _<_, _^_};
 ghost use Rattle.types.specs.Range.{Fair};
 ghost use Rattle.table.specs.Board.{BLOCKS, WORDS, FIELDS, frameOf};
-ghost use Rattle.forms.specs.Kinds.{spreadOf, oldWord, mixedAt};
+ghost use Rattle.forms.specs.Permissions.{spreadOf, oldWord, mixedAt};
 ghost use Rattle.model.specs.Forms.{l1Word};
 ghost use Rattle.model.specs.Numbers.{pack};
 ghost use Rattle.types.specs.Views.{entryOf, requestOf};

@@ -1,2 +1,2 @@
---   Kinds    what an edit asks as the model's request, and what the contracts say of its range and of pages
-pub mod Kinds
+--   EntryBounds    what an edit asks as the model's request, and what the contracts say of its range and of pages
+pub mod EntryBounds

@@ -6,7 +6,7 @@ use table::board::FIELDS;
 use table::board::PAGE_WORDS;
 ghost use Rattle.table.specs.Board.{BLOCKS, WORDS};
 ghost use Prim.Native.Nat.{_+_, _≤_, _<_, _^_};
-ghost use Rattle.range.specs.Kinds.{Below, Past};
+ghost use Rattle.range.specs.EntryBounds.{Below, Past};
 ghost use Rattle.types.specs.Views.{requestOf};
 ghost use Rattle.types.specs.Range.{Fair, Lies, Meets, Cut};
 

@@ -1,8 +1,8 @@
--- `api::code::grant` meets its contract: the tests in the definition's order.
+-- `api::code::permission_at` meets its contract: the tests in the definition's order.
 use Rattle.laws.proofs.Tests.{tests}
 use Rattle.api.specs.Codes.{permissionAt}
-use Rattle.api.proofs.code.grant.Statement.{statement}
-use Rattle.api.proofs.code.grant.Tie as tie
+use Rattle.api.proofs.code.permission_at.Statement.{statement}
+use Rattle.api.proofs.code.permission_at.Tie as tie
 
 returns : tie.Need-returns
 unfolding permissionAt
@@ -24,5 +24,5 @@ returns-5 : tie.Need-returns-5
 unfolding permissionAt
 returns-5 c = search tests
 
-pub grant-spec : {M : Type 1} → statement M
-grant-spec = tie.close (tie.spec returns returns-2 returns-3 returns-4 returns-5)
+pub permission-at-spec : {M : Type 1} → statement M
+permission-at-spec = tie.close (tie.spec returns returns-2 returns-3 returns-4 returns-5)

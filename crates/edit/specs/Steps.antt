@@ -19,7 +19,7 @@ abbrev pub pagesOver : frame.Frame → List ℕ → model.Request → ℕ → Gi
 pagesOver F m q root gib n b = stores.newPages F m root b (model.formsIn F m q root (gib .one) (gib .p) n b)
 
 -- what a step did: the stores of some blocks from b, all of one GiB, with the free pages from place next on
-pub record Did (F : frame.Frame) (m : List ℕ) (q : model.Request) (root : ℕ) (gib : Gib) (b : ℕ) (free : List ℕ) (next : ℕ) (left : Budget) (step : Step) (m′ : List ℕ) : Type 0 where
+pub record Advanced (F : frame.Frame) (m : List ℕ) (q : model.Request) (root : ℕ) (gib : Gib) (b : ℕ) (free : List ℕ) (next : ℕ) (left : Budget) (step : Step) (m′ : List ℕ) : Type 0 where
   pub made : out (step .all) (step .left) m′ ≡ run left (storesOver F m q root gib (step .count) b (drop next free)) m
   pub pages : step .next ≡ next + pagesOver F m q root gib (step .count) b
   pub some : 1 ≤ step .count

@@ -4,47 +4,47 @@ use mathlib.Core.List.{List, headD}
 use Prim.Native.Nat.{ℕ, _+_, _*_, _-_, _/_, _%_, _^_, _≤_, _<_}
 use native.Mathlib.Omega.{arith}
 use lib.ListN.{drop}
-use Rattle.edit.specs.Kinds.{Fresh, wholeList}
-use Rattle.edit.specs.Over.{storesOver, pagesOver}
+use Rattle.edit.specs.Blocks.{HasNewPage, wholeList}
+use Rattle.edit.specs.Steps.{storesOver, pagesOver}
 use Rattle.entries.specs.Ahead.{Ahead}
 use Rattle.entries.proofs.Order.{ahead-of}
-use Rattle.entries.specs.Run.{Out, whole, cut, run}
+use Rattle.entries.specs.Run.{Out, allMade, limitReached, run}
 use Rattle.types.specs.declared.Budget.{Budget}
 use Rattle.types.specs.declared.Gib.{Gib}
-use Rattle.forms.specs.Kinds.{GibIs}
+use Rattle.forms.specs.Permissions.{GibIs}
 use Rattle.model.specs.Forms.{Request, firstGib, gibs}
 use Rattle.model.specs.Frame.{Frame, blocks}
 use Rattle.model.specs.Stores.{Store}
 use Rattle.theory.specs.Rooted.{Rooted}
 use Rattle.entries.proofs.Places.{frame-same}
 use Rattle.edit.proofs.Facts.{Facts}
-use Rattle.edit.proofs.Going.{Going, fresh, gib-back, gib-same, going-ahead, going-end, going-start, rooted, size}
-use Rattle.edit.proofs.Over.{Ends, going-over, over-same, pages-same}
+use Rattle.edit.proofs.Invariant.{Invariant, fresh, gib-back, gib-same, going-ahead, going-end, going-start, rooted, size}
+use Rattle.edit.proofs.Steps.{Ends, going-over, over-same, pages-same}
 use Rattle.types.specs.declared.Frame as code
 use Rattle.types.specs.declared.Gib as gibs′
 use Rattle.table.specs.Board.{frameOf}
 
-pub record Turn (f : code.Frame) (m0 : List ℕ) (q : Request) (root : ℕ) (free : List ℕ) (limit : Budget) (end : ℕ) (m : List ℕ) (b : ℕ) (gib : gibs′.Gib) (next : ℕ) (left : Budget) : Type 0 where
+pub record LoopInvariant (f : code.Frame) (m0 : List ℕ) (q : Request) (root : ℕ) (free : List ℕ) (limit : Budget) (end : ℕ) (m : List ℕ) (b : ℕ) (gib : gibs′.Gib) (next : ℕ) (left : Budget) : Type 0 where
   pub k : Facts f m0 q root free
-  pub going : Going k limit m b next left
+  pub going : Invariant k limit m b next left
   pub isEnd : end ≡ firstGib q * 32 + gibs q * 32
   pub atMost : b ≤ end
   -- what a GiB's first block decided
   pub flag : (b % 32 ≡ 0 → ⊥) → GibIs (frameOf f m0) m0 q root (b / 32) gib
 
 module _ {f : code.Frame} {m0 : List ℕ} {q : Request} {root : ℕ} {free : List ℕ} {limit : Budget} {end : ℕ} where
-  pub turn-start : {b : ℕ} {gib : gibs′.Gib} → Facts f m0 q root free → end ≡ ((q .start + q .size - 1) / 2 ^ 30 + 1) * 32 → b ≡ q .start / 2 ^ 30 * 32 → Turn f m0 q root free limit end m0 b gib 0 limit
+  pub turn-start : {b : ℕ} {gib : gibs′.Gib} → Facts f m0 q root free → end ≡ ((q .start + q .size - 1) / 2 ^ 30 + 1) * 32 → b ≡ q .start / 2 ^ 30 * 32 → LoopInvariant f m0 q root free limit end m0 b gib 0 limit
   unfolding firstGib gibs
   turn-start k e z =
       record {
         k = k;
-        going = subst (λ (c : ℕ). Going k limit m0 c 0 limit) (sym z) (going-start k limit);
+        going = subst (λ (c : ℕ). Invariant k limit m0 c 0 limit) (sym z) (going-start k limit);
         isEnd = omega (arith, e, k .some);
         atMost = omega (arith, e, z, k .some);
         flag = λ ne. absurd (ne (omega (arith, z)));
       }
 
-  module _ {m : List ℕ} {b : ℕ} {gib : gibs′.Gib} {next : ℕ} {left : Budget} (t : Turn f m0 q root free limit end m b gib next left) (h : b < end) where
+  module _ {m : List ℕ} {b : ℕ} {gib : gibs′.Gib} {next : ℕ} {left : Budget} (t : LoopInvariant f m0 q root free limit end m b gib next left) (h : b < end) where
     pub gib-room : b / 32 * 32 + 32 ≤ blocks (frameOf f m0)
     gib-room = omega (arith, t .isEnd, t .k .inside)
 
@@ -67,7 +67,7 @@ module _ {f : code.Frame} {m0 : List ℕ} {q : Request} {root : ℕ} {free : Lis
       open′ : b < firstGib q * 32 + gibs q * 32
       open′ = omega (arith, t .isEnd)
 
-      pub turn-fresh : Fresh (frameOf f m) m q root g b (headD (drop next free) 0)
+      pub turn-fresh : HasNewPage (frameOf f m) m q root g b (headD (drop next free) 0)
       turn-fresh = fresh (t .going) open′ g flag₀
 
       -- the stores of what is left of this GiB are next
@@ -91,10 +91,10 @@ module _ {f : code.Frame} {m0 : List ℕ} {q : Request} {root : ℕ} {free : Lis
             ∙ ap (λ (l : List Store). run left l m) (over-same (t .going) g n b (drop next free) (omega arith) (omega (arith, gib-room)))))
             (going-over (t .k) limit n (t .going) g (omega (arith, t .isEnd)) in-gib)
 
-        pub turn-cut : {m′ : List ℕ} → o ≡ cut m′ → o ≡ run limit (wholeList (frameOf f m0) m0 q root free) m0
+        pub turn-cut : {m′ : List ℕ} → o ≡ limitReached m′ → o ≡ run limit (wholeList (frameOf f m0) m0 q root free) m0
         turn-cut z = z ∙ subst (Ends (t .k) limit (b + n) (next + pagesOver (frameOf f m0) m0 q root g n b)) z ends
 
-        pub turn-next : {l : Budget} {m′ : List ℕ} → o ≡ whole l m′ → (next′ : ℕ) → next′ ≡ next + pagesOver (frameOf f m) m q root g n b → Turn f m0 q root free limit end m′ (b + n) g next′ l
+        pub turn-next : {l : Budget} {m′ : List ℕ} → o ≡ allMade l m′ → (next′ : ℕ) → next′ ≡ next + pagesOver (frameOf f m) m q root g n b → LoopInvariant f m0 q root free limit end m′ (b + n) g next′ l
         turn-next {l} {m′} z next′ y =
             let count : next + pagesOver (frameOf f m0) m0 q root g n b ≡ next′
             = sym (y
@@ -103,13 +103,13 @@ module _ {f : code.Frame} {m0 : List ℕ} {q : Request} {root : ℕ} {free : Lis
             record {
               k = t .k;
               going =
-                  subst (λ (x : ℕ). Going (t .k) limit m′ (b + n) x l) count
+                  subst (λ (x : ℕ). Invariant (t .k) limit m′ (b + n) x l) count
                   (subst (Ends (t .k) limit (b + n) (next + pagesOver (frameOf f m0) m0 q root g n b)) z ends);
               isEnd = t .isEnd;
               atMost = omega (arith, t .isEnd);
               flag = λ ne. let x : b / 32 ≡ (b + n) / 32 = omega (arith, ne) in subst (λ (c : ℕ). GibIs (frameOf f m0) m0 q root c g) x flag₀;
             }
 
-  pub turn-end : {m : List ℕ} {b : ℕ} {gib : gibs′.Gib} {next : ℕ} {left : Budget} → Turn f m0 q root free limit end m b gib next left → end ≤ b
-      → whole left m ≡ run limit (wholeList (frameOf f m0) m0 q root free) m0
+  pub turn-end : {m : List ℕ} {b : ℕ} {gib : gibs′.Gib} {next : ℕ} {left : Budget} → LoopInvariant f m0 q root free limit end m b gib next left → end ≤ b
+      → allMade left m ≡ run limit (wholeList (frameOf f m0) m0 q root free) m0
   turn-end t h = going-end (t .going) (omega (arith, t .isEnd))

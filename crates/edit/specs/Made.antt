@@ -26,4 +26,4 @@ pub record IsMade (F : Frame) (q : Request) (root sdid : ℕ) (whole : List Stor
   pub memory : m′ ≡ apply (take limit whole) m
   pub count : r .count ≡ length (take limit whole)
   pub all : r .all ≡ leb (length whole) limit
-  pub asked : fenceOf (r .fence) ≡ model.fenceFor F root q sdid whole limit
+  pub fence : fenceOf (r .fence) ≡ model.fenceFor F root q sdid whole limit

@@ -1,8 +1,8 @@
--- `api::code::what` meets its contract: the tests in the definition's order.
+-- `api::code::kind_at` meets its contract: the tests in the definition's order.
 use Rattle.laws.proofs.Tests.{tests}
 use Rattle.api.specs.Codes.{kindAt}
-use Rattle.api.proofs.code.what.Statement.{statement}
-use Rattle.api.proofs.code.what.Tie as tie
+use Rattle.api.proofs.code.kind_at.Statement.{statement}
+use Rattle.api.proofs.code.kind_at.Tie as tie
 
 returns : tie.Need-returns
 unfolding kindAt
@@ -44,8 +44,8 @@ returns-10 : tie.Need-returns-10
 unfolding kindAt
 returns-10 c = search tests
 
-pub what-spec : {M : Type 1} → statement M
-what-spec =
+pub kind-at-spec : {M : Type 1} → statement M
+kind-at-spec =
     tie.close
     (tie.spec
     returns

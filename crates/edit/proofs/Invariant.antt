@@ -8,14 +8,14 @@ use Prim.Native.Nat.{ℕ, zero, suc, _+_, _*_, _/_, _≤_, _<_}
 use native.Mathlib.Omega.{arith}
 use lib.ListN.{length, drop, length-append, length-drop}
 use Rattle.entries.specs.Ahead.{Ahead}
-use Rattle.entries.proofs.Order.{Way, way-start, way-end, way-ahead, way-next, way-cut}
+use Rattle.entries.proofs.Order.{Remaining, remaining-start, remaining-end, remaining-ahead, remaining-next, remaining-cut}
 use Rattle.entries.proofs.Runs.{run-whole}
-use Rattle.edit.specs.Kinds.{storesAt, Fresh, wholeList}
-use Rattle.edit.specs.Over.{storesOver}
-use Rattle.entries.specs.Run.{Out, whole, cut, run}
+use Rattle.edit.specs.Blocks.{storesAt, HasNewPage, wholeList}
+use Rattle.edit.specs.Steps.{storesOver}
+use Rattle.entries.specs.Run.{Out, allMade, limitReached, run}
 use Rattle.types.specs.declared.Budget.{Budget}
 use Rattle.types.specs.declared.Gib.{Gib}
-use Rattle.forms.specs.Kinds.{formAt, GibIs}
+use Rattle.forms.specs.Permissions.{formAt, GibIs}
 use Rattle.laws.proofs.Choices.{split}
 use Rattle.model.specs.Entry.{Entry, perm}
 use Rattle.model.specs.Forms.{Request, Form, inRange, after, formIn, formsIn, gibFirst, gibIsOne, forms, firstGib, gibs}
@@ -66,7 +66,7 @@ module _ {f : code.Frame} {m0 : List ℕ} {q : Request} {root : ℕ} {free : Lis
   abbrev Here : List ℕ → ℕ → List Form → List ℕ → Type 0
   Here = At callHere
 
-  pub record Going (m : List ℕ) (b next : ℕ) (left : Budget) : Type 0 where
+  pub record Invariant (m : List ℕ) (b next : ℕ) (left : Budget) : Type 0 where
     pub pre : List Form
     pub post : List Form
     pub parts : fs₀ ≡ pre ++ post
@@ -75,9 +75,9 @@ module _ {f : code.Frame} {m0 : List ℕ} {q : Request} {root : ℕ} {free : Lis
     pub named : AllAt (λ c fm. fm ≡ formOfBlock G₀ m0 q root c) b post
     pub here : Here m b post (drop next free)
     pub taken : next ≤ length free
-    pub way : Way limit m0 (wholeList G₀ m0 q root free) left m (storesFrom G₀ m0 q root b post (drop next free))
+    pub way : Remaining limit m0 (wholeList G₀ m0 q root free) left m (storesFrom G₀ m0 q root b post (drop next free))
 
-  pub going-start : Going m0 B₀ 0 limit
+  pub going-start : Invariant m0 B₀ 0 limit
   going-start =
       record {
         pre = [];
@@ -90,13 +90,13 @@ module _ {f : code.Frame} {m0 : List ℕ} {q : Request} {root : ℕ} {free : Lis
             ap (λ (x : ℕ). formIn G₀ m0 q (gibIsOne G₀ m0 q root x (gibFirst G₀ m0 q root x)) (gibFirst G₀ m0 q root x) (entryAt G₀ m0 root c) c) z);
         here = at-start callHere (k .sound) (forms-fit G₀ (k .ok) q (k .low) root m0) free (k .unused) (k .once) (k .room);
         taken = omega arith;
-        way = way-start refl (k .start);
+        way = remaining-start refl (k .start);
       }
 
 -- ---- what such a memory has
 
 module _ {f : code.Frame} {m0 : List ℕ} {q : Request} {root : ℕ} {free : List ℕ} {k : Facts f m0 q root free} {limit : Budget}
-    {m : List ℕ} {b next : ℕ} {left : Budget} (s : Going k limit m b next left) where
+    {m : List ℕ} {b next : ℕ} {left : Budget} (s : Invariant k limit m b next left) where
   abbrev G : Frame
   G = frameOf f m0
 
@@ -166,7 +166,7 @@ module _ {f : code.Frame} {m0 : List ℕ} {q : Request} {root : ℕ} {free : Lis
   pub going-ahead : (gib : gibs′.Gib) (n : ℕ) → b + n ≤ B + gibs q * 32 → ((d : ℕ) → b ≤ d → d < b + n → GibIs G m0 q root (d / 32) gib) → Ahead m (storesOver G m0 q root gib n b (drop next free))
   going-ahead gib n h gi =
       let f = front gib n (s .post) b (drop next free) (omega (arith, fs-length k limit, ap (λ (l : List Form). length l) (s .parts), length-append (s .pre) (s .post), s .at)) (s .named) gi in
-      way-ahead (s .way) _ (f .0) (f .1)
+      remaining-ahead (s .way) _ (f .0) (f .1)
 
   -- ---- one more block
 
@@ -218,9 +218,9 @@ module _ {f : code.Frame} {m0 : List ℕ} {q : Request} {root : ℕ} {free : Lis
       unfolding newPages
       one-more z = let y : needsPage fm e₀ ≡ true = ap (λ (x : Form). needsPage x e₀) is-named ∙ z in omega (arith, rw y at (here′ .enough))
 
-      fresh-of : Fresh (frameOf f m) m q root gib b (headD fr 0)
+      fresh-of : HasNewPage (frameOf f m) m q root gib b (headD fr 0)
       fresh-of =
-          subst (λ (X : Frame). Fresh X m q root gib b (headD fr 0)) (sym (frame-same f m m0 size))
+          subst (λ (X : Frame). HasNewPage X m q root gib b (headD fr 0)) (sym (frame-same f m m0 size))
           (λ z. let g = here′ .isFree (headD fr 0) (head-in fr (one-more (sym need-here ∙ z))) in (g .0, lent-ppn G (k .ok) (headD fr 0) (g .0)))
 
       abbrev ss : List Store
@@ -237,8 +237,8 @@ module _ {f : code.Frame} {m0 : List ℕ} {q : Request} {root : ℕ} {free : Lis
         unfolding storesFrom
         parts = ap (λ (l : List Form). storesFrom G m0 q root b l fr) e
 
-        cut-of : {m′ : List ℕ} → o ≡ cut m′ → o ≡ run limit (wholeList G m0 q root free) m0
-        cut-of z = z ∙ way-cut (s .way) ss _ parts (sym z ∙ step)
+        cut-of : {m′ : List ℕ} → o ≡ limitReached m′ → o ≡ run limit (wholeList G m0 q root free) m0
+        cut-of z = z ∙ remaining-cut (s .way) ss _ parts (sym z ∙ step)
 
         abbrev next′ : ℕ
         next′ = if needsPage (formAt (frameOf f m) m q root gib b) (entryAt (frameOf f m) m root b) then next + 1 else next
@@ -260,7 +260,7 @@ module _ {f : code.Frame} {m0 : List ℕ} {q : Request} {root : ℕ} {free : Lis
             (λ z. rw (need-same, z) (omega (arith, one-more (ap (λ (x : Form). needsPage x e₀) (sym is-named) ∙ z), length-drop next free)))
             (λ z. rw (need-same, z) (s .taken))
 
-        whole-of : {l : Budget} {m′ : List ℕ} → o ≡ whole l m′ → Going k limit m′ (b + 1) next′ l
+        whole-of : {l : Budget} {m′ : List ℕ} → o ≡ allMade l m′ → Invariant k limit m′ (b + 1) next′ l
         whole-of {l} {m′} z =
             let after′ : m′ ≡ apply ss m = run-whole left ss m l m′ (sym step ∙ z) .1 in
             let one : suc b ≡ b + 1 = sym (add-one b) in
@@ -278,25 +278,25 @@ module _ {f : code.Frame} {m0 : List ℕ} {q : Request} {root : ℕ} {free : Lis
                   (subst (FitsAll G (after G m0 q root) b) e (s .fits) .0) fr m here′));
               taken = taken′;
               way =
-                  subst₂ (λ (c : ℕ) (x : List ℕ). Way limit m0 (wholeList G m0 q root free) l m′ (storesFrom G m0 q root c post′ x)) one pages-left
-                  (way-next (s .way) ss _ parts (sym z ∙ step));
+                  subst₂ (λ (c : ℕ) (x : List ℕ). Remaining limit m0 (wholeList G m0 q root free) l m′ (storesFrom G m0 q root c post′ x)) one pages-left
+                  (remaining-next (s .way) ss _ parts (sym z ∙ step));
             }
 
-    pub fresh : Fresh (frameOf f m) m q root gib b (headD (drop next free) 0)
+    pub fresh : HasNewPage (frameOf f m) m q root gib b (headD (drop next free) 0)
     fresh = let h = some-left (s .post) refl in fresh-of (h .0) (h .1) (h .2)
 
     module _ (o : Out) (said : o ≡ run left (storesAt (frameOf f m) m q root gib b (headD (drop next free) 0)) m) where
-      pub going-cut : {m′ : List ℕ} → o ≡ cut m′ → o ≡ run limit (wholeList G m0 q root free) m0
+      pub going-cut : {m′ : List ℕ} → o ≡ limitReached m′ → o ≡ run limit (wholeList G m0 q root free) m0
       going-cut z = let h = some-left (s .post) refl in cut-of (h .0) (h .1) (h .2) o said z
 
-      pub going-next : {l : Budget} {m′ : List ℕ} → o ≡ whole l m′
-          → Going k limit m′ (b + 1) (if needsPage (formAt (frameOf f m) m q root gib b) (entryAt (frameOf f m) m root b) then next + 1 else next) l
+      pub going-next : {l : Budget} {m′ : List ℕ} → o ≡ allMade l m′
+          → Invariant k limit m′ (b + 1) (if needsPage (formAt (frameOf f m) m q root gib b) (entryAt (frameOf f m) m root b) then next + 1 else next) l
       going-next z = let h = some-left (s .post) refl in whole-of (h .0) (h .1) (h .2) o said z
 
-  pub going-end : B + gibs q * 32 ≤ b → whole left m ≡ run limit (wholeList G m0 q root free) m0
+  pub going-end : B + gibs q * 32 ≤ b → allMade left m ≡ run limit (wholeList G m0 q root free) m0
   unfolding storesFrom
   going-end h = go (s .post) refl
     where
-      go : (post : List Form) → s .post ≡ post → whole left m ≡ run limit (wholeList G m0 q root free) m0
-      go [] e = way-end (s .way) (ap (λ (l : List Form). storesFrom G m0 q root b l (drop next free)) e)
+      go : (post : List Form) → s .post ≡ post → allMade left m ≡ run limit (wholeList G m0 q root free) m0
+      go [] e = remaining-end (s .way) (ap (λ (l : List Form). storesFrom G m0 q root b l (drop next free)) e)
       go (fm ∷ post′) e = absurd (omega (arith, fs-length k limit, ap (λ (l : List Form). length l) (s .parts), length-append (s .pre) (s .post), ap (λ (l : List Form). length l) e, s .at))

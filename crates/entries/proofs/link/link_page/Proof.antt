@@ -4,8 +4,8 @@ use Rattle.entries.proofs.Places.{next-store, stored}
 use Rattle.model.specs.Entry.{encode}
 use Rattle.model.specs.Stores.{storeL2}
 use Rattle.model.specs.Walk.{entryPage, entryPlace}
-use Rattle.entries.proofs.link.stores.Statement.{statement}
-use Rattle.entries.proofs.link.stores.Tie as tie
+use Rattle.entries.proofs.link.link_page.Statement.{statement}
+use Rattle.entries.proofs.link.link_page.Tie as tie
 
 page-at-requires : tie.Need-page-at-requires
 page-at-requires c κs = search needs
@@ -35,7 +35,7 @@ returns c =
     let a = c .before .before .before .before .before .before .before .before .before .args in
     stored (frameOf (a .edit .f) (a .words .now)) (a .edit .root .0) (a .new .b) _ (c .before .before .before .before .before .before .page-at .ensures .0) (a .left) (a .words .now) (c .before .before .before .narrow .ensures) (c .before .before .put .ensures)
 
-pub stores-spec : {M : Type 1} → statement M
-stores-spec =
+pub link-page-spec : {M : Type 1} → statement M
+link-page-spec =
     tie.close
     (tie.spec page-at-requires add-at add-narrow narrow-requires put-requires same-length returns)

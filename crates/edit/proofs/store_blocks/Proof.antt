@@ -8,17 +8,17 @@ use native.Mathlib.Omega.{arith}
 use borrow.Author.Tests.{not-true, not-false}
 use lib.ListN.{length}
 use Rattle.edit.proofs.Facts.{Facts, facts}
-use Rattle.edit.proofs.Turns.{Turn, turn-start, turn-rooted, turn-room, turn-flag, turn-fresh, turn-ahead, turn-cut, turn-next, turn-end}
-use Rattle.edit.proofs.Going.{size}
+use Rattle.edit.proofs.LoopInvariant.{LoopInvariant, turn-start, turn-rooted, turn-room, turn-flag, turn-fresh, turn-ahead, turn-cut, turn-next, turn-end}
+use Rattle.edit.proofs.Invariant.{size}
 use Rattle.entries.proofs.Runs.{out-whole, out-cut}
 use Rattle.types.specs.declared.Gib.{Gib}
 use Rattle.types.specs.Range.{Fair}
-use Rattle.edit.proofs.stores.Statement.{statement}
+use Rattle.edit.proofs.store_blocks.Statement.{statement}
 use Rattle.types.specs.Views.{requestOf, freeList}
-use Rattle.edit.proofs.stores.Tie as tie
+use Rattle.edit.proofs.store_blocks.Tie as tie
 
 abbrev Inv-loop : tie.InvT-loop
-Inv-loop edit words₀ free end b₀ gib₀ next₀ left₀ words b gib next left = Turn (edit .f) words₀ (requestOf (edit .q)) (edit .root .0) (freeList free) left₀ end words b gib next left
+Inv-loop edit words₀ free end b₀ gib₀ next₀ left₀ words b gib next left = LoopInvariant (edit .f) words₀ (requestOf (edit .q)) (edit .root .0) (freeList free) left₀ end words b gib next left
 
 abbrev μ-loop : tie.MeasureT-loop
 μ-loop edit words₀ free end b₀ gib₀ next₀ left₀ words b gib next left = end - b
@@ -126,8 +126,8 @@ returns-2 c =
     let a = l .before .before .before .before .args in
     turn-end (l .loop .inv) (c .loop-test .left)
 
-pub stores-spec : {M : Type 1} → statement M
-stores-spec =
+pub store-blocks-spec : {M : Type 1} → statement M
+store-blocks-spec =
     tie.close
     (tie.spec
     Inv-loop

@@ -1,8 +1,8 @@
--- `api::code::who` meets its contract: the tests in the definition's order.
+-- `api::code::privilege_at` meets its contract: the tests in the definition's order.
 use Rattle.laws.proofs.Tests.{tests}
 use Rattle.api.specs.Codes.{privilegeAt}
-use Rattle.api.proofs.code.who.Statement.{statement}
-use Rattle.api.proofs.code.who.Tie as tie
+use Rattle.api.proofs.code.privilege_at.Statement.{statement}
+use Rattle.api.proofs.code.privilege_at.Tie as tie
 
 returns : tie.Need-returns
 unfolding privilegeAt
@@ -20,5 +20,5 @@ returns-4 : tie.Need-returns-4
 unfolding privilegeAt
 returns-4 c = search tests
 
-pub who-spec : {M : Type 1} → statement M
-who-spec = tie.close (tie.spec returns returns-2 returns-3 returns-4)
+pub privilege-at-spec : {M : Type 1} → statement M
+privilege-at-spec = tie.close (tie.spec returns returns-2 returns-3 returns-4)

@@ -12,7 +12,7 @@ use Rattle.model.specs.Forms as model
 use Rattle.model.specs.Stores as stores
 use Rattle.model.specs.Calls as calls
 use Rattle.types.specs.declared.Gib.{Gib}
-use Rattle.forms.specs.Kinds.{formAt}
+use Rattle.forms.specs.Permissions.{formAt}
 use Rattle.shapes.specs.Blocks as blocks
 use Rattle.table.specs.Board.{board, ENTRY}
 
@@ -25,11 +25,11 @@ abbrev pub storesAt : frame.Frame → List ℕ → model.Request → ℕ → Gib
 storesAt F m q root gib b new = stores.blockStores F m q root (formAt F m q root gib b) (walk.entryAt F m root b) b new
 
 -- a new page, where the block needs one
-abbrev pub Fresh : frame.Frame → List ℕ → model.Request → ℕ → Gib → ℕ → ℕ → Type 0
-Fresh F m q root gib b new = stores.needsPage (formAt F m q root gib b) (walk.entryAt F m root b) ≡ true → (frame.lent F new ≡ true) × (new < 2 ^ board .infoBits)
+abbrev pub HasNewPage : frame.Frame → List ℕ → model.Request → ℕ → Gib → ℕ → ℕ → Type 0
+HasNewPage F m q root gib b new = stores.needsPage (formAt F m q root gib b) (walk.entryAt F m root b) ≡ true → (frame.lent F new ≡ true) × (new < 2 ^ board .infoBits)
 
 -- no refusal fits the edit: root is its slot's root page, and free the lowest free pages
-pub record Accepted (F : frame.Frame) (m : List ℕ) (q : model.Request) (root : ℕ) (free : List ℕ) : Type 0 where
+pub record Prepared (F : frame.Frame) (m : List ℕ) (q : model.Request) (root : ℕ) (free : List ℕ) : Type 0 where
   pub small : q .permission < 4
   pub slots : List ℕ
   pub none : calls.editRefusal F m slots q ≡ 0

@@ -9,12 +9,12 @@ use native.Mathlib.Omega.{arith}
 use native.Mathlib.Numerals.{add-one}
 use lib.ListN.{drop}
 use Rattle.entries.proofs.Runs.{run-none, run-on, run-off}
-use Rattle.edit.specs.Kinds.{storesAt, wholeList}
-use Rattle.edit.specs.Over.{storesOver, pagesOver}
-use Rattle.entries.specs.Run.{Out, whole, cut, run}
+use Rattle.edit.specs.Blocks.{storesAt, wholeList}
+use Rattle.edit.specs.Steps.{storesOver, pagesOver}
+use Rattle.entries.specs.Run.{Out, allMade, limitReached, run}
 use Rattle.types.specs.declared.Budget.{Budget}
 use Rattle.types.specs.declared.Gib.{Gib}
-use Rattle.forms.specs.Kinds.{formAt, GibIs}
+use Rattle.forms.specs.Permissions.{formAt, GibIs}
 use Rattle.laws.proofs.Choices.{split}
 use Rattle.model.specs.Entry.{Entry}
 use Rattle.model.specs.Forms.{Request, Form, firstGib, gibs, formsIn}
@@ -29,14 +29,14 @@ use Rattle.entries.proofs.Places.{frame-same}
 use Rattle.edit.proofs.Facts.{Facts}
 use Rattle.forms.proofs.BoardShape.{board-shape}
 use Rattle.shapes.proofs.PageLaws.{stores-same}
-use Rattle.edit.proofs.Going.{Going, after-same, going-cut, going-next, size}
+use Rattle.edit.proofs.Invariant.{Invariant, after-same, going-cut, going-next, size}
 use Rattle.types.specs.declared.Frame as code
 use Rattle.table.specs.Board.{frameOf}
 
 -- ---- what the memory as it stands has of the blocks ahead
 
 module _ {f : code.Frame} {m0 : List ℕ} {q : Request} {root : ℕ} {free : List ℕ} {k : Facts f m0 q root free} {limit : Budget}
-    {m : List ℕ} {b next : ℕ} {left : Budget} (s : Going k limit m b next left) (gib : Gib) where
+    {m : List ℕ} {b next : ℕ} {left : Budget} (s : Invariant k limit m b next left) (gib : Gib) where
   abbrev G : Frame
   G = frameOf f m0
 
@@ -76,12 +76,12 @@ module _ {f : code.Frame} {m0 : List ℕ} {q : Request} {root : ℕ} {free : Lis
   G₀ = frameOf f m0
 
   abbrev At : List ℕ → ℕ → ℕ → Budget → Type 0
-  At = Going k limit
+  At = Invariant k limit
 
   -- where some stores end: at block b with the free pages from place next on, or cut, as the whole edit is
   abbrev pub Ends : ℕ → ℕ → Out → Type 0
-  Ends b next (whole l m) = At m b next l
-  Ends b next (cut m) = cut m ≡ run limit (wholeList G₀ m0 q root free) m0
+  Ends b next (allMade l m) = At m b next l
+  Ends b next (limitReached m) = limitReached m ≡ run limit (wholeList G₀ m0 q root free) m0
 
   -- one block, and then n more
   module _ (n : ℕ) (m : List ℕ) (b next : ℕ) (left : Budget) (s : At m b next left) (gib : Gib) (hi : b < firstGib q * 32 + gibs q * 32) (gi : GibIs G₀ m0 q root (b / 32) gib)
@@ -125,11 +125,11 @@ module _ {f : code.Frame} {m0 : List ℕ} {q : Request} {root : ℕ} {free : Lis
         ∙ split need (λ z. rw (need-same, z) (omega arith)) (λ z. rw (need-same, z) (omega arith))
 
     go : (o : Out) → o ≡ run left ss m → Ends (b + suc n) (next + ((if need then 1 else 0) + pagesOver G₀ m0 q root gib n (suc b))) (run left (ss ++ ts) m)
-    go (cut m′) e =
+    go (limitReached m′) e =
         subst (Ends (b + suc n) (next + ((if need then 1 else 0) + pagesOver G₀ m0 q root gib n (suc b)))) (sym (run-off left ss m e ts))
-        (going-cut s hi gib gi (cut m′) (said (cut m′) e) refl)
-    go (whole l m′) e =
-        let s₁ : At m′ (b + 1) next₁ l = going-next s hi gib gi (whole l m′) (said (whole l m′) e) refl in
+        (going-cut s hi gib gi (limitReached m′) (said (limitReached m′) e) refl)
+    go (allMade l m′) e =
+        let s₁ : At m′ (b + 1) next₁ l = going-next s hi gib gi (allMade l m′) (said (allMade l m′) e) refl in
         let u : b + 1 + n ≡ b + suc n = omega arith in
         subst (Ends (b + suc n) (next + ((if need then 1 else 0) + pagesOver G₀ m0 q root gib n (suc b))))
         (sym (run-on left ss m e ts ∙ ap₂ (λ (x : ℕ) (y : List ℕ). run l (storesOver G₀ m0 q root gib n x y) m′) (sym (add-one b)) pages-left))
@@ -139,7 +139,7 @@ module _ {f : code.Frame} {m0 : List ℕ} {q : Request} {root : ℕ} {free : Lis
     unfolding storesFrom newPages formsIn
     one-over = go (run left ss m) refl
 
-  pub going-over : (n : ℕ) {m : List ℕ} {b next : ℕ} {left : Budget} (s : Going k limit m b next left) (gib : Gib) → b + n ≤ firstGib q * 32 + gibs q * 32
+  pub going-over : (n : ℕ) {m : List ℕ} {b next : ℕ} {left : Budget} (s : Invariant k limit m b next left) (gib : Gib) → b + n ≤ firstGib q * 32 + gibs q * 32
       → ((c : ℕ) → b ≤ c → c < b + n → GibIs G₀ m0 q root (c / 32) gib)
       → Ends (b + n) (next + pagesOver G₀ m0 q root gib n b) (run left (storesOver G₀ m0 q root gib n b (drop next free)) m)
   unfolding storesFrom newPages formsIn
