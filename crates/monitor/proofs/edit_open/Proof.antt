@@ -175,7 +175,7 @@ sdid-requires c κs = search needs
 
 -- the edit, in the words of the crate that makes the stores
 asks : (c : tie.Else3) → let s = c .before .before .before .before .before .before .before .before .before .before .before in
-    Accepted (frameAt s) (memoryOf s) (request s) (c .before .before .before .before .ppn .result .0) (freeList (c .before .before .before .before .before .free-pages .result))
+    Prepared (frameAt s) (memoryOf s) (request s) (c .before .before .before .before .ppn .result .0) (freeList (c .before .before .before .before .before .free-pages .result))
 unfolding slotAt registerFor rootOf
 asks c =
     let p = c .before .before .before .before in

@@ -1,3 +1,4 @@
+-- `entries::link::link_table` meets its contract: the page is filled while it is ahead of the link, and the link comes next.
 use mathlib.Core.Path.{_≡_, refl, sym, ap, _∙_}
 use mathlib.Core.Bool.{true}
 use mathlib.Core.List.{List, [], _∷_, _++_}
@@ -33,8 +34,8 @@ first s = remaining-start refl (s .pre .7)
 
 then : (el : tie.Else1) → let r = el .before .before .before .before .fill-page in On (el .before .before .before .before .before .before .before) (r .result .left) (r .last .1 .0) (link (el .before .before .before .before .before .before .before))
 then el =
-    let r = el .before .before .before .before .fill-page in
-    remaining-next (first (el .before .before .before .before .before .before .before)) _ _ refl (sym (went-whole (r .result) (r .last .1 .0) (el .if1 .left)) ∙ r .ensures)
+    let page-call = el .before .before .before .before .fill-page in
+    remaining-next (first (el .before .before .before .before .before .before .before)) _ _ refl (sym (went-whole (page-call .result) (page-call .last .1 .0) (el .if1 .left)) ∙ page-call .ensures)
 
 fill-page-requires : tie.Need-fill-page-requires
 fill-page-requires c κs = let next : Ahead (c .before .before .args .words .now) (page (c .before .before)) = remaining-ahead (first (c .before .before)) _ _ refl in search needs
@@ -66,7 +67,7 @@ returns-2 : tie.Need-returns-2
 returns-2 c =
     let el = c .before .before .before .before .before in
     let a = el .before .before .before .before .before .before .before .args in
-    let r = el .before .before .before .before .fill-page in
+    let r = (el .before .before .before .before) .fill-page in
     c .before .before .link-page .ensures
     ∙ ap (λ (X : Frame). run (r .result .left) (storeL2 X (a .edit .root .0) (a .new .b) (encode board (table (a .new .page .0))) ∷ []) (r .last .1 .0)) (frame-same (a .edit .f) (r .last .1 .0) (a .words .now) (r .kept .1 .0))
     ∙ sym (then el .same)
