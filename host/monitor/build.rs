@@ -5,32 +5,28 @@ use std::path::{Path, PathBuf};
 use std::{env, fs, process};
 
 fn main() {
-    println!("cargo::rerun-if-env-changed=MPT_LIBRARY");
-    println!("cargo::rerun-if-changed=build.rs");
+    println!("cargo:rerun-if-env-changed=MPT_LIBRARY");
+    println!("cargo:rerun-if-changed=build.rs");
     if env::var_os("CARGO_FEATURE_PROVED").is_some() {
-        link();
+        match env::var_os("MPT_LIBRARY") {
+            Some(library) => link(Path::new(&library)),
+            None => fail("feature `proved` needs the environment variable MPT_LIBRARY: the full path of the proved static library, as in MPT_LIBRARY=/path/to/libmpt-x86_64.a"),
+        }
     }
 }
 
-fn link() {
-    let Some(library) = env::var_os("MPT_LIBRARY").map(PathBuf::from) else {
-        fail("feature `proved` needs the environment variable MPT_LIBRARY: the full path of the proved static library, as in MPT_LIBRARY=/path/to/libmpt-x86_64.a");
-    };
+fn link(library: &Path) {
     let folder = PathBuf::from(env::var_os("OUT_DIR").expect("cargo sets OUT_DIR"));
-    copy(&library, &folder.join("libmpt_proved.a"));
-    println!("cargo::rerun-if-changed={}", library.display());
-    println!("cargo::rustc-link-search=native={}", folder.display());
-    println!("cargo::rustc-link-lib=static=mpt_proved");
-}
-
-fn copy(from: &Path, to: &Path) {
-    if let Err(error) = fs::copy(from, to) {
-        fail(&format!("MPT_LIBRARY={}: {error}; it must be the full path of a static library", from.display()));
+    if let Err(error) = fs::copy(library, folder.join("libmpt_proved.a")) {
+        fail(&format!("MPT_LIBRARY={}: {error}; it must be the full path of a static library", library.display()));
     }
+    println!("cargo:rerun-if-changed={}", library.display());
+    println!("cargo:rustc-link-search=native={}", folder.display());
+    println!("cargo:rustc-link-lib=static=mpt_proved");
 }
 
-/// Cargo shows the line and stops the build.
+/// Cargo shows what a build script that failed has said.
 fn fail(message: &str) -> ! {
-    println!("cargo::error={message}");
-    process::exit(0)
+    eprintln!("error: {message}");
+    process::exit(1)
 }

@@ -1,6 +1,6 @@
 //! Numbers that must not be mixed, and the small sets that document 01 names.
 
-use std::fmt;
+use core::fmt;
 
 /// A physical address.
 #[derive(Clone, Copy, Debug, PartialEq, Eq, PartialOrd, Ord, Hash)]
@@ -37,6 +37,9 @@ impl Address {
 }
 
 impl Register {
+    /// What an empty slot holds.
+    pub const EMPTY: Register = Register(0);
+
     /// A slot that holds zero is empty.
     pub fn is_empty(self) -> bool {
         self.0 == 0

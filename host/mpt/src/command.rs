@@ -1,6 +1,6 @@
 //! The language of `mpt run`: one command a line.
 
-use mpt_monitor::{Address, Edit, Kind, PageNumber, Permission, Privilege, Register, Sdid, Slot};
+use mpt_monitor::{Address, Call, Edit, Kind, PageNumber, Permission, Privilege, Register, Sdid, Slot};
 use std::fmt;
 use std::str::SplitWhitespace;
 
@@ -15,6 +15,7 @@ pub enum Command {
     Close { slot: Slot },
     Edit(Edit),
     Lookup { register: Register, privilege: Privilege, kind: Kind, address: Address },
+    Sound,
     Free,
     Sum,
     Save(String),
@@ -27,7 +28,7 @@ pub const MOST_PAGES: usize = 16384;
 pub const MOST_EXTRA: usize = 511;
 
 /// Each command with its form.
-const FORMS: [(&str, &str); 13] = [
+const FORMS: [(&str, &str); 14] = [
     ("frame", "frame PAW FIRST PAGES [EXTRA]"),
     ("poke", "poke INDEX WORD"),
     ("slot", "slot INDEX REGISTER"),
@@ -37,11 +38,28 @@ const FORMS: [(&str, &str); 13] = [
     ("close", "close SLOT"),
     ("edit", "edit SLOT START LENGTH none|rx|rw|rwx LIMIT"),
     ("lookup", "lookup REGISTER m|s|u KIND ADDRESS"),
+    ("sound", "sound"),
     ("free", "free"),
     ("sum", "sum"),
     ("save", "save FILE"),
     ("load", "load FILE"),
 ];
+
+impl Command {
+    /// The call that a command makes, if it makes one.
+    pub fn call(&self) -> Option<Call> {
+        match *self {
+            Command::Open { slot, sdid } => Some(Call::open(slot, sdid)),
+            Command::Close { slot } => Some(Call::close(slot)),
+            Command::Edit(edit) => Some(Call::edit(edit)),
+            Command::Lookup { register, privilege, kind, address } => {
+                Some(Call::lookup(register, privilege, kind, address))
+            }
+            Command::Sound => Some(Call::sound()),
+            _ => None,
+        }
+    }
+}
 
 /// The names of the kinds, in the order of their codes.
 pub const KINDS: [&str; 9] =
@@ -50,11 +68,14 @@ pub const KINDS: [&str; 9] =
 /// Reads a line: nothing if it is blank or a comment.
 pub fn parse(line: &str) -> Result<Option<Command>, String> {
     let line = without_comment(line).trim();
-    let Some(name) = line.split_whitespace().next() else { return Ok(None) };
-    let Some((_, form)) = FORMS.iter().find(|(known, _)| *known == name) else {
-        let known: Vec<&str> = FORMS.iter().map(|(known, _)| *known).collect();
-        return Err(format!("no command `{name}`; the commands are {}", known.join(", ")));
+    let name = match line.split_whitespace().next() {
+        Some(name) => name,
+        None => return Ok(None),
     };
+    let (_, form) = FORMS.iter().find(|(known, _)| *known == name).ok_or_else(|| {
+        let known: Vec<&str> = FORMS.iter().map(|(known, _)| *known).collect();
+        format!("no command `{name}`; the commands are {}", known.join(", "))
+    })?;
     let mut fields = Fields { form, rest: line.split_whitespace() };
     fields.rest.next();
     let command = match name {
@@ -70,7 +91,7 @@ pub fn parse(line: &str) -> Result<Option<Command>, String> {
 
 /// A comment runs from a `#` that begins a word to the end of the line.
 fn without_comment(line: &str) -> &str {
-    let begins = |(at, _): &(usize, &str)| line[..*at].chars().next_back().is_none_or(char::is_whitespace);
+    let begins = |(at, _): &(usize, &str)| line[..*at].chars().next_back().map_or(true, char::is_whitespace);
     line.match_indices('#').find(begins).map_or(line, |(at, _)| &line[..at])
 }
 
@@ -98,6 +119,7 @@ fn command(name: &str, fields: &mut Fields) -> Result<Command, String> {
         "close" => Command::Close { slot: Slot(fields.number("SLOT")?) },
         "edit" => Command::Edit(edit(fields)?),
         "lookup" => lookup(fields)?,
+        "sound" => Command::Sound,
         "free" => Command::Free,
         _ => Command::Sum,
     })
@@ -207,6 +229,7 @@ impl fmt::Display for Command {
                 let (privilege, kind) = (privilege_letter(*privilege), KINDS[kind.code() as usize]);
                 write!(f, "lookup {:#x} {privilege} {kind} {:#x}", register.0, address.0)
             }
+            Command::Sound => f.write_str("sound"),
             Command::Free => f.write_str("free"),
             Command::Sum => f.write_str("sum"),
             Command::Save(file) => write!(f, "save {file}"),
@@ -265,6 +288,7 @@ mod tests {
             "edit 0 0x1000 0x2000 rwx 0",
             "lookup 0x5 s update-fetch 0x6",
             "lookup 0x5 m walk-load 0x6",
+            "sound",
             "save a b",
         ];
         for line in lines {

@@ -1,5 +1,6 @@
 //! `mpt`: runs, tests, measures and draws memory protection tables.
 
+mod answer;
 mod bench;
 mod cases;
 mod command;
