@@ -4,6 +4,7 @@ mod answer;
 mod bench;
 mod cases;
 mod command;
+mod fields;
 mod fuzz;
 mod image;
 mod map;
