@@ -16,13 +16,25 @@ fn main() {
 }
 
 fn link(library: &Path) {
+    let name = library.display();
+    let bytes = fs::read(library).unwrap_or_else(|error| {
+        fail(&format!("MPT_LIBRARY={name}: {error}; it must be the full path of a static library"))
+    });
     let folder = PathBuf::from(env::var_os("OUT_DIR").expect("cargo sets OUT_DIR"));
-    if let Err(error) = fs::copy(library, folder.join("libmpt_proved.a")) {
-        fail(&format!("MPT_LIBRARY={}: {error}; it must be the full path of a static library", library.display()));
+    if let Err(error) = fs::write(folder.join("libmpt_proved.a"), &bytes) {
+        fail(&format!("{}: {error}", folder.display()));
     }
-    println!("cargo:rerun-if-changed={}", library.display());
+    if names(&bytes, b"\0mpt_version\0") {
+        println!("cargo:rustc-cfg=mpt_version");
+    }
+    println!("cargo:rerun-if-changed={name}");
     println!("cargo:rustc-link-search=native={}", folder.display());
     println!("cargo:rustc-link-lib=static=mpt_proved");
+}
+
+/// Whether a symbol's name stands in a library: a library may be older than its version call.
+fn names(library: &[u8], symbol: &[u8]) -> bool {
+    library.windows(symbol.len()).any(|bytes| bytes == symbol)
 }
 
 /// Cargo shows what a build script that failed has said.

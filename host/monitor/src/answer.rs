@@ -38,7 +38,26 @@ pub enum Cause {
     Store = 7,
 }
 
-/// Why the monitor said no, by its number in document 01.
+/// Why the monitor said no, by its number in document 01. Later versions may add numbers.
+///
+/// ```
+/// # use mpt_monitor::*;
+/// assert_eq!(Refusal::from_number(6), Some(Refusal::MeetsLent));
+/// assert_eq!(Refusal::from_number(0), None);
+/// ```
+///
+/// A match must have an arm for those:
+///
+/// ```compile_fail,E0004
+/// # use mpt_monitor::*;
+/// fn may_try_again(refusal: Refusal) -> bool {
+///     match refusal {
+///         Refusal::BadFrame | Refusal::BadRegister | Refusal::NotSound | Refusal::BadSlot => false,
+///         Refusal::BadRange | Refusal::MeetsLent | Refusal::BadSdid => false,
+///         Refusal::NoFreePage => true,
+///     }
+/// }
+/// ```
 #[derive(Clone, Copy, Debug, PartialEq, Eq)]
 #[non_exhaustive]
 pub enum Refusal {

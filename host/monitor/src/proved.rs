@@ -1,4 +1,6 @@
 //! The proved library, called by C's rules.
+// the build script says `mpt_version`; that it does can't be told to every compiler from 1.63 on
+#![allow(unknown_lints, unexpected_cfgs)]
 
 use crate::answer::Answer;
 use crate::call::{Reading, View, ViewMut, Writing};
@@ -48,12 +50,28 @@ mod c {
             limit: u64,
         ) -> u64;
         pub fn mpt_sound(paw: u64, first: u64, words: *const u64, count: usize, slots: *const [u64; 8]) -> u64;
+        #[cfg(mpt_version)]
+        pub fn mpt_version() -> u64;
     }
 }
 
 /// The proved library that MPT_LIBRARY named when this was built.
 #[derive(Clone, Copy, Debug, Default)]
 pub struct Proved;
+
+/// The version of the interface that this crate is written for, as `MPT_VERSION` in `mpt.h`.
+pub const VERSION: u64 = 1 << 16;
+
+impl Proved {
+    /// The library's version; nothing for one that is older than its version call.
+    pub fn version(self) -> Option<u64> {
+        #[cfg(mpt_version)]
+        // SAFETY: a call without arguments that answers a constant.
+        return Some(unsafe { c::mpt_version() });
+        #[cfg(not(mpt_version))]
+        None
+    }
+}
 
 // SAFETY of all five: each pointer comes from a slice with its own length or from an array of eight,
 // the borrows say which may be written and that none overlap, and the library keeps none of them

@@ -36,6 +36,15 @@ pub trait Memory {
 }
 
 /// A table in memory that its caller lends, as firmware has it: words and slots that outlive a reset.
+///
+/// ```
+/// # use mpt_monitor::*;
+/// let (mut words, mut slots) = ([0; 2 * PAGE_WORDS], [0; SLOTS]);
+/// let mut table = Lent::new(Frame { paw: 32, first: PageNumber(0x80000) }, &mut words, &mut slots);
+/// table.set_slot(Slot(1), Register(0x1140_0000_0008_0000));
+/// assert_eq!(table.register(Slot(1)), Some(Register(0x1140_0000_0008_0000)));
+/// assert_eq!(table.register(Slot(8)), None);
+/// ```
 #[derive(Debug)]
 pub struct Lent<'a> {
     frame: Frame,

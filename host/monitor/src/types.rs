@@ -19,11 +19,24 @@ pub struct Sdid(pub u64);
 pub struct Slot(pub u64);
 
 /// An mmpt value: PPN 43:0, WPRI 53:44, SDID 59:54, MODE 63:60.
+///
+/// ```
+/// # use mpt_monitor::*;
+/// let register = Register(0x1140_0000_0008_0000);
+/// assert_eq!((register.mode(), register.sdid(), register.root()), (1, Sdid(5), PageNumber(0x80000)));
+/// ```
 #[derive(Clone, Copy, Debug, PartialEq, Eq, Hash)]
 pub struct Register(pub u64);
 
 impl PageNumber {
     /// The address at which the page begins, if it is below 2^64.
+    ///
+    /// ```
+    /// # use mpt_monitor::*;
+    /// assert_eq!(PageNumber(0x80000).address(), Some(Address(0x8000_0000)));
+    /// assert_eq!(Address(0x8000_0FFF).page(), PageNumber(0x80000));
+    /// assert_eq!(PageNumber(1 << 52).address(), None);
+    /// ```
     pub fn address(self) -> Option<Address> {
         self.0.checked_mul(4096).map(Address)
     }

@@ -1,4 +1,11 @@
 //! The one word that each call of `mpt.h` answers, taken apart.
+//!
+//! ```
+//! # use mpt_monitor::*;
+//! assert_eq!(word::looked(261), Answer::Looked(Verdict::Fault(Cause::Load)));
+//! assert_eq!(word::closed(0x5500), Answer::Closed(Fence::Domain(Sdid(5))));
+//! assert_eq!(word::sound(3), Answer::Refused(Refusal::NotSound));
+//! ```
 
 use crate::answer::{Answer, Edited, Fence, Verdict};
 use crate::types::{Address, Register, Sdid};

@@ -131,6 +131,20 @@ fn codes_of_kinds_follow_the_header() {
     assert_eq!(Permission::Rx.name(), "rx");
 }
 
+/// A library that has a version call is of the version that this crate is written for, and of the header's.
+#[cfg(feature = "proved")]
+#[test]
+fn the_version_is_the_headers() {
+    let header = include_str!("../../include/mpt.h");
+    let number = |name: &str| -> u64 {
+        let line = header.lines().find_map(|line| line.strip_prefix(name)).unwrap();
+        line.trim().parse().unwrap()
+    };
+    let version = number("#define MPT_VERSION_MAJOR ") << 16 | number("#define MPT_VERSION_MINOR ");
+    assert_eq!(VERSION, version);
+    assert!(matches!(Proved.version(), None | Some(VERSION)), "{:?}", Proved.version());
+}
+
 /// Case C and E of document 01 through the proved library.
 #[cfg(feature = "proved")]
 #[test]
