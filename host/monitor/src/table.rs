@@ -25,7 +25,7 @@ pub trait Memory {
 
     fn view_mut(&mut self) -> ViewMut<'_>;
 
-    /// Writes one slot, whole, and after all that was written before. A slot above 7 is none.
+    /// Writes one slot, after an open or a close. A slot above 7 is none.
     fn set_slot(&mut self, slot: Slot, register: Register);
 
     /// The register in a slot; nothing for a slot above 7.
@@ -70,24 +70,25 @@ impl Memory for Lent<'_> {
         ViewMut { frame: self.frame, words: self.words, slots: self.slots }
     }
 
+    /// One store of 8 bytes, in order with all before and after it. A reset leaves the old register or
+    /// the new one: the new one of an open only where its root page is zeroed, and a close's fence, which
+    /// comes after this, finds the slot empty on every hart.
     #[inline]
     fn set_slot(&mut self, slot: Slot, register: Register) {
-        store_slot(self.slots, slot, register);
+        if let Some(place) = place_of(self.slots, slot) {
+            fence(Ordering::SeqCst);
+            // SAFETY: a reference is good for a write.
+            unsafe { ptr::write_volatile(place, register.0) };
+            fence(Ordering::SeqCst);
+        }
     }
 }
 
-/// One store of 8 bytes that no other passes: a reset leaves the old register or the new, and the new
-/// only where the root page that it names is written.
-fn store_slot(slots: &mut [u64; SLOTS], slot: Slot, register: Register) {
-    if let Some(place) = usize::try_from(slot.0).ok().and_then(|index| slots.get_mut(index)) {
-        fence(Ordering::Release);
-        // SAFETY: a reference is good for a write.
-        unsafe { ptr::write_volatile(place, register.0) };
-        fence(Ordering::Release);
-    }
+fn place_of(slots: &mut [u64; SLOTS], slot: Slot) -> Option<&mut u64> {
+    slots.get_mut(usize::try_from(slot.0).ok()?)
 }
 
-/// A table that owns its memory.
+/// A table that owns its memory. It is gone after a reset.
 #[cfg(feature = "std")]
 #[derive(Clone, Debug, PartialEq, Eq)]
 pub struct Table {
@@ -145,6 +146,8 @@ impl Memory for Table {
 
     #[inline]
     fn set_slot(&mut self, slot: Slot, register: Register) {
-        store_slot(&mut self.slots, slot, register);
+        if let Some(place) = place_of(&mut self.slots, slot) {
+            *place = register.0;
+        }
     }
 }
