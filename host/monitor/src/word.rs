@@ -15,13 +15,16 @@ const DONE: u64 = 256;
 /// A code names no privilege, kind or permission.
 const OUTSIDE_KIND: u64 = 255;
 
-/// A word that says that nothing was done: a refusal, or a code that names nothing.
+/// A word that says that nothing was done, 1 to 255: a refusal, or a code that names nothing. One test
+/// tells it from all others, so that a caller who asks no more has no branch between 0 and a fault.
 #[inline]
 fn undone(word: u64) -> Option<Answer> {
-    match word {
-        0 | DONE.. => None,
-        OUTSIDE_KIND => Some(Answer::OutsideKind),
-        _ => Some(Answer::refused(word)),
+    if word.wrapping_sub(1) >= OUTSIDE_KIND {
+        None
+    } else if word == OUTSIDE_KIND {
+        Some(Answer::OutsideKind)
+    } else {
+        Some(Answer::refused(word))
     }
 }
 
