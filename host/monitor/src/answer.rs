@@ -46,17 +46,29 @@ pub enum Cause {
 /// assert_eq!(Refusal::from_number(0), None);
 /// ```
 ///
-/// A match must have an arm for those:
+/// So a match needs an arm for those, and without its last line this one does not compile:
 ///
-/// ```compile_fail,E0004
+/// ```
 /// # use mpt_monitor::*;
 /// fn may_try_again(refusal: Refusal) -> bool {
 ///     match refusal {
 ///         Refusal::BadFrame | Refusal::BadRegister | Refusal::NotSound | Refusal::BadSlot => false,
 ///         Refusal::BadRange | Refusal::MeetsLent | Refusal::BadSdid => false,
 ///         Refusal::NoFreePage => true,
+///         _ => false,
 ///     }
 /// }
+/// ```
+///
+/// ```compile_fail,E0004
+/// # use mpt_monitor::*;
+/// # fn may_try_again(refusal: Refusal) -> bool {
+/// #   match refusal {
+/// #       Refusal::BadFrame | Refusal::BadRegister | Refusal::NotSound | Refusal::BadSlot => false,
+/// #       Refusal::BadRange | Refusal::MeetsLent | Refusal::BadSdid => false,
+///         Refusal::NoFreePage => true,
+///     }
+/// # }
 /// ```
 #[derive(Clone, Copy, Debug, PartialEq, Eq)]
 #[non_exhaustive]

@@ -1,6 +1,6 @@
 //! A safe wrapper over the proved monitor's C interface (`include/mpt.h`).
 //!
-//! A [`Monitor`] makes the calls on memory that its caller lends ([`Lent`]), or that a [`Table`] owns
+//! A [`Monitor`] makes the calls on memory that its caller lends ([`Lent`]), or that a `Table` owns
 //! (feature `std`; without it the crate is `no_std`). Numbers that must not be mixed have kinds of
 //! their own: [`Address`], [`PageNumber`], [`Sdid`], [`Slot`], [`Register`]. Each takes any value,
 //! since it is the monitor's work to refuse.
@@ -33,7 +33,17 @@
 //! # Ok::<(), Refusal>(())
 //! ```
 //!
-//! One kind in another's place does not compile:
+//! One kind in another's place does not compile. Right are
+//!
+//! ```
+//! # use mpt_monitor::*;
+//! let frame = Frame { paw: 32, first: PageNumber(0x80000) };
+//! fn open<I: Interface>(monitor: &Monitor<I>, table: &mut Lent) -> Result<Register, Refusal> {
+//!     monitor.open(table, Slot(0), Sdid(5))
+//! }
+//! ```
+//!
+//! and wrong, an address for a page number, and slot and SDID swapped:
 //!
 //! ```compile_fail,E0308
 //! # use mpt_monitor::*;
