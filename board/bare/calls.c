@@ -95,19 +95,22 @@ uint64_t fence_of(const struct edit *edit, const struct store *list, uint64_t co
     return edit->length == PAGE && count == 1 && !in_root ? MPT_FENCE_ADDRESS : MPT_FENCE_DOMAIN;
 }
 
-void check_answer(uint64_t answer, const struct store *list, uint64_t count)
+static void check_edited(mpt_edited answer, const struct store *list, uint64_t count)
 {
     const struct edit *edit = &scenario->tried.edit;
-    if (mpt_refused(answer))
-        fail("refused: ", mpt_refused(answer), ", answer ", answer);
-    if (scenario->tried.call == OPEN) {
-        if (answer != scenario->answer)
-            fail("opens as ", answer, ", by document 01 ", scenario->answer);
-        return;
-    }
     uint64_t fence = fence_of(edit, list, count), sdid = KEPT->slots[edit->slot] >> 54 & 63;
+    if (mpt_refused(answer))
+        fail("refused: ", mpt_refused(answer), ", answer ", answer.word);
     if (mpt_stores(answer) != count || !mpt_all(answer))
-        fail("says another number of stores, or not all: answer ", answer, ", in the list ", count);
-    if (mpt_fence(answer) != fence || (fence != MPT_FENCE_NONE && mpt_fence_sdid(answer) != sdid))
-        fail("asks another fence: answer ", answer, ", kind wanted ", fence);
+        fail("says another number of stores, or not all: answer ", answer.word, ", in the list ", count);
+    if (mpt_fence(answer) != fence || (fence != MPT_FENCE_NONE && mpt_fence_sdid(answer).value != sdid))
+        fail("asks another fence: answer ", answer.word, ", kind wanted ", fence);
+}
+
+void check_answer(uint64_t answer, const struct store *list, uint64_t count)
+{
+    if (scenario->tried.call == EDIT)
+        check_edited((mpt_edited){answer}, list, count);
+    else if (mpt_register((mpt_opened){answer}) != scenario->answer)
+        fail("opens as ", answer, ", by document 01 ", scenario->answer);
 }

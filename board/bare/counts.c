@@ -2,7 +2,7 @@
 #include "worst.h"
 
 /* docs/BOARD.md promises that no call takes more. */
-enum { MOST_INSTRUCTIONS = 2000000 };
+enum { MOST_INSTRUCTIONS = 1500000 };
 
 static struct store list[MOST_STORES];
 static uint64_t answer;
@@ -36,12 +36,12 @@ static uint64_t count_call(int which, const uint64_t arguments[10])
 
 static uint64_t count_edit(const struct edit *edit, uint64_t limit)
 {
-    return count_call(EDIT, (uint64_t[10]){largest.paw, FIRST, (uint64_t)TABLE, LARGEST_PAGES * PAGE_ENTRIES, (uint64_t)KEPT->slots, edit->slot,
-                                           edit->start, edit->length, edit->permission, limit});
+    return count_call(EDIT, (uint64_t[10]){LARGEST, edit->slot, edit->start, edit->length, edit->permission, limit});
 }
 
 /* The longest that were seen. */
 static uint64_t longest[CALLS], longest_retry, widest;
+static uint64_t nothing, roots; /* a check with no slot open, and of eight roots with no L1 page */
 
 static void keep_longest(int which, uint64_t instructions)
 {
@@ -55,7 +55,8 @@ static void keep_longest(int which, uint64_t instructions)
 static uint64_t count_whole_edit(const struct edit *edit)
 {
     uint64_t count = second_edit(&largest, edit, list), instructions = count_edit(edit, MOST_STORES);
-    if (mpt_refused(answer) || !mpt_all(answer) || mpt_stores(answer) != count)
+    mpt_edited edited = {answer};
+    if (mpt_refused(edited) || !mpt_all(edited) || mpt_stores(edited) != count)
         fail("the edit is not made whole: answer ", answer, ", in the list ", count);
     for (uint64_t k = 0; k < count; k++)
         if (TABLE[list[k].at] != list[k].word)
@@ -87,33 +88,46 @@ static void count_edits(void)
 {
     struct edit edit = make_widest();
     if (count_whole_edit(&edit) != MOST_STORES)
-        fail("not as many stores as an edit can have: ", mpt_stores(answer), ", of ", MOST_STORES);
+        fail("not as many stores as an edit can have: answer ", answer, ", of ", MOST_STORES);
     widest = longest[EDIT];
     for (int n = 0; n < 3 * 3 * 16; n++)
         count_retries(&(struct shape){n % 3, n / 3 % 3, n / 9 & 1, n / 18 & 1, n / 36 & 1, n / 72 & 1});
 }
 
+/* Every kind of access, to each permission of an L1 page and of pieces. */
+static void count_lookups(void)
+{
+    for (uint64_t kind = MPT_FETCH; kind <= MPT_UPDATE_STORE; kind++)
+        for (uint64_t page = 0; page < 4; page++) {
+            uint64_t top = (UINT64_C(1) << 34) - PAGE * (page + 1), low = page * PIECE_PAGES * PAGE;
+            uint64_t a[10] = {LARGEST, MPT_SUPERVISOR, kind, top};
+            a[4] = KEPT->slots[WORST_SLOT];
+            keep_longest(LOOKUP, count_call(LOOKUP, a));
+            a[7] = low;
+            keep_longest(LOOKUP, count_call(LOOKUP, a));
+        }
+}
+
 static void count_other_calls(void)
 {
-    uint64_t a[10] = {largest.paw, FIRST, (uint64_t)TABLE, LARGEST_PAGES * PAGE_ENTRIES, (uint64_t)KEPT->slots, WORST_SLOT, 63};
+    uint64_t a[10] = {LARGEST, WORST_SLOT, 63};
     open_roots(7);
     fill_up(6, 1);
     keep_longest(OPEN, count_call(OPEN, a));
     if (answer != REGISTER(63, FIRST + LARGEST_PAGES - 1))
         fail("open answers ", answer, ", the last page is ", FIRST + LARGEST_PAGES - 1);
+    open_roots(0);
+    nothing = count_call(SOUND, a);
     open_roots(8);
+    roots = count_call(SOUND, a);
     fill_up(WORST_SLOT, 0);
     keep_longest(SOUND, count_call(SOUND, a));
     if (answer != MPT_FINE)
         fail("the largest table is not sound: ", answer, ", slots ", 8);
     keep_longest(CLOSE, count_call(CLOSE, a));
-    if (mpt_refused(answer))
+    if (mpt_refused((mpt_closed){answer}))
         fail("close is refused: ", answer, ", slot ", WORST_SLOT);
-    a[4] = KEPT->slots[WORST_SLOT];
-    a[5] = MPT_SUPERVISOR;
-    a[7] = (UINT64_C(1) << 34) - PAGE;
-    for (a[6] = MPT_FETCH; a[6] <= MPT_UPDATE_STORE; a[6]++)
-        keep_longest(LOOKUP, count_call(LOOKUP, a));
+    count_lookups();
 }
 
 static void say_counts(void)
@@ -128,7 +142,13 @@ static void say_counts(void)
     say_number(widest);
     say("; a retry up to the link of its new page ");
     say_number(longest_retry);
-    put('\n');
+    say("; a check ");
+    say_number(nothing);
+    say(", for each root ");
+    say_number((roots - nothing) / 8);
+    say(" and for each L1 page ");
+    say_number((longest[SOUND] - roots) / 248);
+    say(" more\n");
 }
 
 void count_instructions(void)

@@ -14,19 +14,18 @@ static uint64_t period(void)
 static uint64_t edit(uint64_t limit)
 {
     const struct edit *edit = &KEPT->retry.edit;
-    return call_plain(EDIT, (uint64_t[10]){largest.paw, FIRST, (uint64_t)TABLE, LARGEST_PAGES * PAGE_ENTRIES, (uint64_t)KEPT->slots, edit->slot,
-                                           edit->start, edit->length, edit->permission, limit});
+    return call_plain(EDIT, (uint64_t[10]){LARGEST, edit->slot, edit->start, edit->length, edit->permission, limit});
 }
 
 /* What the start after a reset makes: the check, and the edit again. The board is reset when the period is over. */
 static void start(void)
 {
     start_timer(period() / INSTRUCTIONS_A_TICK);
-    call_plain(SOUND, (uint64_t[10]){largest.paw, FIRST, (uint64_t)TABLE, LARGEST_PAGES * PAGE_ENTRIES, (uint64_t)KEPT->slots});
-    uint64_t answer = edit(MOST_STORES);
+    call_plain(SOUND, (uint64_t[10]){LARGEST});
+    mpt_edited answer = {edit(MOST_STORES)};
     stop_timer();
     if (mpt_refused(answer) || !mpt_all(answer))
-        fail("the edit is not made whole: answer ", answer, ", period ", period());
+        fail("the edit is not made whole: answer ", answer.word, ", period ", period());
 }
 
 static void say_period(const char *end)

@@ -47,7 +47,7 @@ void check_reads(const char *fact, uint64_t mmpt, const struct reading *reading)
 {
     for (uint64_t block = 0; block < blocks(); block++)
         if (!block_reads(mmpt, reading, block))
-            fail(fact, block * BLOCK_PAGES * PAGE, ", its entry is ", TABLE[(PPN(mmpt) - FIRST) * PAGE_ENTRIES + block]);
+            fail(fact, block * BLOCK_PAGES * PAGE, ", register ", mmpt);
 }
 
 /* "Sets the register": a new domain reads none everywhere. */

@@ -34,13 +34,13 @@ static void calls_without_stores(void)
     uint64_t start = scenario->tried.edit.start, reads = KEPT->whole.reads_before.pages[start / PAGE];
     uint64_t sound = call_trapped(SOUND, (uint64_t[10]){table.paw, FIRST, words, count, slots});
     uint64_t lookup = call_trapped(LOOKUP, (uint64_t[10]){table.paw, FIRST, words, count, mmpt, MPT_SUPERVISOR, MPT_LOAD, start});
-    uint64_t close = call_trapped(CLOSE, (uint64_t[10]){table.paw, FIRST, words, count, slots, EDITED});
+    mpt_closed close = {call_trapped(CLOSE, (uint64_t[10]){table.paw, FIRST, words, count, slots, EDITED})};
     if (sound != MPT_FINE)
         fail("not sound: ", sound, ", slot 0 is ", mmpt);
     if (lookup != (reads == MPT_NONE ? MPT_LOAD_FAULT : MPT_FINE))
         fail("lookup ", lookup, ", the walk reads ", reads);
-    if (mpt_fence(close) != MPT_FENCE_DOMAIN || mpt_fence_sdid(close) != (mmpt >> 54 & 63))
-        fail("close ", close, ", slot ", EDITED);
+    if (mpt_fence(close) != MPT_FENCE_DOMAIN || mpt_fence_sdid(close).value != (mmpt >> 54 & 63))
+        fail("close ", close.word, ", slot ", EDITED);
 }
 
 void every_store(void)

@@ -57,20 +57,20 @@ struct whole {
 /* A family of edits over two GiBs whose blocks outside the range all have an L1 page, each of which the edit has to read. */
 enum { FLAT, PIECES, WITH_PAGE };
 struct shape {
-    int low, high;   /* the entries of the blocks at the two ends of the range */
-    int low_mixed;   /* the L1 pages below are mixed, and stay; else they are of one permission, and are unlinked */
-    int high_mixed;  /* those above */
-    int high_rest;   /* the block at the upper end has another permission where the range ends */
-    int long_end;    /* the range ends at the last page of that block, not at its first */
+    int low, high;  /* the entries of the blocks at the two ends of the range */
+    int low_mixed;  /* the L1 pages below are mixed, and stay; else they are of one permission, and are unlinked */
+    int high_mixed; /* those above */
+    int high_rest;  /* the block at the upper end has another permission where the range ends */
+    int long_end;   /* the range ends before the last page of that block, not behind its first */
 };
 
 /* What outlives a reset. */
 struct kept {
     uint64_t magic, nth, phase;
-    uint64_t round, step;    /* how far the phase is */
-    uint64_t pending;        /* whether a call was under way when the board was reset */
-    uint64_t resets;         /* in this phase */
-    uint64_t dogs, middle;   /* resets by the watchdog, and how many of them between the first store of a call and its last */
+    uint64_t round, step;  /* how far the phase is */
+    uint64_t pending;      /* whether a call was under way when the board was reset */
+    uint64_t resets;       /* in this phase */
+    uint64_t dogs, middle; /* resets by the watchdog, and how many of them between the first store of a call and its last */
     uint64_t deepest[CALLS];
     uint64_t slots[8];
     uint64_t found[TRIED_WORDS]; /* the lent memory as the call that is under way found it */
@@ -112,7 +112,7 @@ extern int leave_user; /* the call in user mode ends after this trap */
 void fail(const char *fact, uint64_t number, const char *more, uint64_t other);
 extern const char *phase; /* what the line says after the scenario's name */
 
-/* calls.c: the library's calls, in user mode with each store trapped or in machine mode, and what must hold after one. */
+/* calls.c and state.c: the library's calls, in user mode with each store trapped or in machine mode, and what must hold after one. */
 uint64_t call_trapped(int which, const uint64_t arguments[10]);
 uint64_t call_plain(int which, const uint64_t arguments[10]);
 void say_stack(void);

@@ -109,7 +109,7 @@ static void check_everything(void)
     for (uint64_t block = 0; block < UINT64_C(1) << (table.paw - 25); block++) {
         check_block(block);
         if (!block_reads(table.slots[OTHER], &KEPT->whole.reads_other, block))
-            fail("another domain reads otherwise: the block from ", block * BLOCK_PAGES * PAGE, ", due is word ", watched.list[watched.made].at);
+            fail("another domain reads otherwise: the block from ", block * BLOCK_PAGES * PAGE, ", register ", table.slots[OTHER]);
     }
 }
 

@@ -4,7 +4,7 @@
 
 #define TYPE(type, info) ((uint64_t)(type) << 44 | (info))
 #define UNIFORM(permission) ((permission) * UINT64_C(0x1111111111111111))
-/* Pieces of all four permissions. */
+/* Pieces of all four permissions; the check takes longest for a TYPE 6 entry, but for one with an L1 page. */
 #define MIXED_PIECES TYPE(6, UINT64_C(0xe4e4e4e4))
 
 const struct table largest = {34, FIRST, LARGEST_PAGES, TABLE, KEPT->slots};
@@ -63,7 +63,7 @@ struct edit make_shape(const struct shape *shape)
         give_block(block, WITH_PAGE, MPT_NONE, 0, shape->low_mixed);
     give_block(31, shape->low, MPT_RX, 0, 0);
     for (uint64_t block = 32; block < 480; block++)
-        give_block(block, FLAT, MPT_RWX, 0, 0);
+        give_block(block, PIECES, MPT_RWX, 0, 0);
     for (uint64_t block = 480; block < 512; block++)
         if (block == 480)
             give_block(block, shape->high, shape->high_rest ? MPT_RW : MPT_NONE, 0, 0);
@@ -79,7 +79,7 @@ struct edit make_widest(void)
 {
     open_roots(8);
     for (uint64_t block = 0; block < 512; block++)
-        give_block(block, FLAT, MPT_RWX, 0, 0);
+        give_block(block, PIECES, MPT_RWX, 0, 0);
     for (uint64_t block = 1; next_page + 2 < LARGEST_PAGES; block++)
         give_page(WORST_SLOT, block, MPT_RW, 1, 0);
     return (struct edit){WORST_SLOT, PAGE, (UINT64_C(1) << 34) - 2 * PAGE, MPT_NONE};
