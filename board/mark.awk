@@ -171,5 +171,5 @@ END {
     join_calls(); solve(); judge()
     if (bad) exit 1
     for (k = 1; k <= n; k++) print target == "riscv64" && line[k] !~ /^ / ? for_riscv64(line[k]) : line[k]
-    print "mark: " marked " store to the table, marked; no other store, copy or fill of " writes " can reach lent memory" > "/dev/stderr"
+    print "mark: of " writes " stores, copies and fills " marked " can reach lent memory: the one in " table ", which is marked" > "/dev/stderr"
 }

@@ -51,16 +51,16 @@ void say_stack(void)
 /* The stores of the scenario's call on a table, in order. */
 size_t list_of(const struct table *table, struct store *list)
 {
-    return scenario->tried.call == OPEN ? second_open(table, list) : second_edit(table, &scenario->tried.edit, list);
+    return tried->call == OPEN ? second_open(table, list) : second_edit(table, &tried->edit, list);
 }
 
 static void arguments_of(uint64_t a[10])
 {
-    const struct edit *edit = &scenario->tried.edit;
-    int open = scenario->tried.call == OPEN;
+    const struct edit *edit = &tried->edit;
+    int open = tried->call == OPEN;
     uint64_t values[10] = {
         table.paw, FIRST, (uint64_t)TABLE, table.pages * PAGE_ENTRIES, (uint64_t)KEPT->slots,
-        edit->slot, open ? scenario->tried.sdid : edit->start, edit->length, edit->permission, MOST_STORES,
+        edit->slot, open ? tried->sdid : edit->start, edit->length, edit->permission, MOST_STORES,
     };
     for (int k = 0; k < 10; k++)
         a[k] = values[k];
@@ -72,7 +72,7 @@ uint64_t make_trapped(const struct store *list, uint64_t count, uint64_t reset_a
     uint64_t a[10];
     arguments_of(a);
     watched = (struct watched){list, count, 0, reset_at, reading, EDITED};
-    uint64_t answer = call_trapped(scenario->tried.call, a);
+    uint64_t answer = call_trapped(tried->call, a);
     if (watched.made != count)
         fail("ends too early, stores made ", watched.made, ", in the list ", count);
     check_answer(answer, list, count);
@@ -83,7 +83,7 @@ uint64_t make_plain(void)
 {
     uint64_t a[10];
     arguments_of(a);
-    return call_plain(scenario->tried.call, a);
+    return call_plain(tried->call, a);
 }
 
 /* "Fence asked". */
@@ -97,7 +97,7 @@ uint64_t fence_of(const struct edit *edit, const struct store *list, uint64_t co
 
 static void check_edited(mpt_edited answer, const struct store *list, uint64_t count)
 {
-    const struct edit *edit = &scenario->tried.edit;
+    const struct edit *edit = &tried->edit;
     uint64_t fence = fence_of(edit, list, count), sdid = KEPT->slots[edit->slot] >> 54 & 63;
     if (mpt_refused(answer))
         fail("refused: ", mpt_refused(answer), ", answer ", answer.word);
@@ -109,7 +109,7 @@ static void check_edited(mpt_edited answer, const struct store *list, uint64_t c
 
 void check_answer(uint64_t answer, const struct store *list, uint64_t count)
 {
-    if (scenario->tried.call == EDIT)
+    if (tried->call == EDIT)
         check_edited((mpt_edited){answer}, list, count);
     else if (mpt_register((mpt_opened){answer}) != scenario->answer)
         fail("opens as ", answer, ", by document 01 ", scenario->answer);

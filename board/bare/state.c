@@ -19,6 +19,14 @@ void same_words(const uint64_t *words, const struct store *list, uint64_t count)
             fail("not what the first stores of the list leave: word ", k, " is ", TABLE[k]);
 }
 
+/* No call writes a slot. */
+void same_slots(void)
+{
+    for (int slot = 0; slot < 8; slot++)
+        if (KEPT->slots[slot] != KEPT->whole.slots[slot])
+            fail("a slot has changed: ", slot, ", it is ", KEPT->slots[slot]);
+}
+
 static uint64_t blocks(void)
 {
     return UINT64_C(1) << (table.paw - 25);
@@ -59,10 +67,12 @@ static void check_opened(uint64_t answer)
             fail("the new domain does not read none: the block from ", block * BLOCK_PAGES * PAGE, ", register ", answer);
 }
 
-/* The end of a call, cut or not: every address of each domain reads as after the uncut one, and as many pages are free. */
+/* The end of a call, cut or not: every address of each domain reads as after the uncut one, as many pages are free, and no slot has
+ * changed. */
 void check_end(uint64_t answer)
 {
-    if (scenario->tried.call == OPEN)
+    same_slots();
+    if (tried->call == OPEN)
         check_opened(answer);
     check_reads("does not read as after the uncut call: the block from ", KEPT->slots[EDITED], &KEPT->whole.reads_after);
     check_reads("another domain has changed: the block from ", KEPT->slots[OTHER], &KEPT->whole.reads_other);

@@ -5,10 +5,12 @@
 static void work_out(void)
 {
     struct whole *whole = &KEPT->whole;
-    const struct edit *edit = &scenario->tried.edit;
+    const struct edit *edit = &tried->edit;
     whole->count = list_of(&table, whole->list);
     if (whole->count != scenario->stores)
         fail("the list's length ", whole->count, ", by document 01 ", scenario->stores);
+    for (int slot = 0; slot < 8; slot++)
+        whole->slots[slot] = KEPT->slots[slot];
     copy_words(whole->before, TABLE);
     copy_words(whole->after, TABLE);
     for (uint64_t k = 0; k < whole->count; k++)
@@ -19,7 +21,7 @@ static void work_out(void)
     read_all(KEPT->slots[EDITED], &whole->reads_after);
     copy_words(TABLE, whole->before);
     for (uint64_t page = 0; page < UINT64_C(1) << (table.paw - 12); page++) {
-        int inside = scenario->tried.call == EDIT && page * PAGE >= edit->start && page * PAGE - edit->start < edit->length;
+        int inside = tried->call == EDIT && page * PAGE >= edit->start && page * PAGE - edit->start < edit->length;
         uint64_t wanted = inside ? edit->permission : whole->reads_before.pages[page];
         if (whole->reads_after.pages[page] != wanted)
             fail("the list does not give what the call asks: page ", page, " reads ", whole->reads_after.pages[page]);
@@ -31,7 +33,7 @@ static void calls_without_stores(void)
 {
     uint64_t words = (uint64_t)TABLE, count = table.pages * PAGE_ENTRIES, slots = (uint64_t)KEPT->slots, mmpt = KEPT->slots[EDITED];
     watched = (struct watched){NULL, 0, 0, NEVER, NOTHING, EDITED};
-    uint64_t start = scenario->tried.edit.start, reads = KEPT->whole.reads_before.pages[start / PAGE];
+    uint64_t start = tried->edit.start, reads = KEPT->whole.reads_before.pages[start / PAGE];
     uint64_t sound = call_trapped(SOUND, (uint64_t[10]){table.paw, FIRST, words, count, slots});
     uint64_t lookup = call_trapped(LOOKUP, (uint64_t[10]){table.paw, FIRST, words, count, mmpt, MPT_SUPERVISOR, MPT_LOAD, start});
     mpt_closed close = {call_trapped(CLOSE, (uint64_t[10]){table.paw, FIRST, words, count, slots, EDITED})};

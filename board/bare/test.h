@@ -29,12 +29,14 @@ struct scenario {
     const char *name;
     uint64_t paw, pages;
     struct step before[MOST_STEPS], tried;
-    uint64_t answer; /* of an open: the register */
     uint64_t stores, free_after;
+    uint64_t answer;     /* of an open: the register */
+    struct step instead; /* and another call that may follow it when it is cut */
 };
 enum { CASE_C, CASE_F, CASE_G, CASE_H, TWO_PAGES, WIDE, THIRD_DOMAIN, SCENARIOS };
 extern const struct scenario scenarios[SCENARIOS];
-extern const struct scenario *scenario; /* the one that is tried now */
+extern const struct scenario *scenario; /* the one that is tried now, */
+extern const struct step *tried;        /* its call */
 extern struct table table;              /* and its table */
 void enter(int nth);
 void prepare(void);
@@ -46,9 +48,9 @@ struct reading {
 };
 enum { MIXED = 255 };
 
-/* The call that is tried, made whole: the lent memory and how the domain reads before it and after it, and its list of stores. */
+/* The call that is tried, made whole: the slots, the lent memory and how the domain reads before it and after it, and its list of stores. */
 struct whole {
-    uint64_t before[TRIED_WORDS], after[TRIED_WORDS];
+    uint64_t slots[8], before[TRIED_WORDS], after[TRIED_WORDS];
     struct reading reads_before, reads_after, reads_other;
     struct store list[MOST_STORES];
     uint64_t count, free_after, ticks; /* ticks: how long it takes, not trapped */
@@ -70,7 +72,7 @@ struct kept {
     uint64_t round, step;  /* how far the phase is */
     uint64_t pending;      /* whether a call was under way when the board was reset */
     uint64_t resets;       /* in this phase */
-    uint64_t dogs, middle; /* resets by the watchdog, and how many of them between the first store of a call and its last */
+    uint64_t all, middle;  /* resets by the watchdog in all, and those between the first store of a call and its last */
     uint64_t deepest[CALLS];
     uint64_t slots[8];
     uint64_t found[TRIED_WORDS]; /* the lent memory as the call that is under way found it */
@@ -123,6 +125,7 @@ uint64_t fence_of(const struct edit *edit, const struct store *list, uint64_t co
 void check_answer(uint64_t answer, const struct store *list, uint64_t count);
 void copy_words(uint64_t *to, const uint64_t *from);
 void same_words(const uint64_t *words, const struct store *list, uint64_t count);
+void same_slots(void);
 void read_all(uint64_t mmpt, struct reading *reading);
 int block_reads(uint64_t mmpt, const struct reading *reading, uint64_t block);
 void check_reads(const char *fact, uint64_t mmpt, const struct reading *reading);

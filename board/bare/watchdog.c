@@ -22,7 +22,7 @@ static void check_cut(void)
         if (TABLE[list[k].at] == list[k].word && KEPT->found[list[k].at] != list[k].word)
             seen = k + 1;
     KEPT->resets++;
-    KEPT->dogs++;
+    KEPT->all++;
     same_words(KEPT->found, list, seen);
     if (seen > 0 && seen < count)
         KEPT->middle++;
@@ -68,12 +68,12 @@ void watchdog(void)
 void say_watchdog(void)
 {
     say("watchdog: ");
-    say_number(KEPT->dogs);
+    say_number(KEPT->all);
     say(" resets at odd moments of ");
     say_number(ROUNDS * SCENARIOS);
     say(" calls, ");
     say_number(KEPT->middle);
     say(" of them between two stores; each start found the first stores of the list, and the call was finished\n");
-    if (KEPT->dogs < ROUNDS * SCENARIOS / 2 || KEPT->middle < ROUNDS * SCENARIOS / 20)
-        fail("too few resets to show anything: ", KEPT->dogs, ", between two stores ", KEPT->middle);
+    if (KEPT->all < ROUNDS * SCENARIOS / 2 || KEPT->middle < ROUNDS * SCENARIOS / 20)
+        fail("too few resets to show anything: ", KEPT->all, ", between two stores ", KEPT->middle);
 }
