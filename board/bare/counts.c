@@ -39,8 +39,8 @@ static uint64_t count_edit(const struct edit *edit, uint64_t limit)
     return count_call(EDIT, (uint64_t[10]){LARGEST, edit->slot, edit->start, edit->length, edit->permission, limit});
 }
 
-/* The longest that were seen. */
-static uint64_t longest[CALLS], longest_retry, widest;
+/* The longest that were seen; of an edit that was cut, up to the link of its new page, and when nothing is left to store. */
+static uint64_t longest[CALLS], longest_retry, longest_rest, widest;
 static uint64_t nothing, roots; /* a check with no slot open, and of eight roots with no L1 page */
 
 static void keep_longest(int which, uint64_t instructions)
@@ -62,6 +62,9 @@ static uint64_t count_whole_edit(const struct edit *edit)
         if (TABLE[list[k].at] != list[k].word)
             fail("the edit leaves another word: ", list[k].at, ", it is ", TABLE[list[k].at]);
     keep_longest(EDIT, instructions);
+    uint64_t rest = count_edit(edit, MOST_STORES);
+    if (rest > longest_rest)
+        longest_rest = rest;
     return count;
 }
 
@@ -79,7 +82,7 @@ static void count_retries(const struct shape *shape)
         uint64_t retry = count_edit(&edit, PAGE_ENTRIES);
         if (retry > longest_retry) {
             longest_retry = retry;
-            KEPT->retry = (struct retry){*shape, edit, k - PAGE_ENTRIES, list[k].at, longest[SOUND] + retry};
+            KEPT->retry = (struct retry){*shape, edit, k - PAGE_ENTRIES, list[k].at, {0}};
         }
     }
 }
@@ -92,9 +95,11 @@ static void count_edits(void)
     widest = longest[EDIT];
     for (int n = 0; n < 3 * 3 * 16; n++)
         count_retries(&(struct shape){n % 3, n / 3 % 3, n / 9 & 1, n / 18 & 1, n / 36 & 1, n / 72 & 1});
+    KEPT->retry.start[0] = longest[SOUND] + longest_retry;
+    KEPT->retry.start[1] = longest[SOUND] + (longest_rest > longest_retry ? longest_rest : longest_retry);
 }
 
-/* Every kind of access, to each permission of an L1 page and of pieces. */
+/* Every kind of access, by an L1 page and by pieces. */
 static void count_lookups(void)
 {
     for (uint64_t kind = MPT_FETCH; kind <= MPT_UPDATE_STORE; kind++)
@@ -140,8 +145,10 @@ static void say_counts(void)
     }
     say("; edit of 1,536 stores ");
     say_number(widest);
-    say("; a retry up to the link of its new page ");
+    say("; edit again, up to the link of its new page ");
     say_number(longest_retry);
+    say(", with nothing left to store ");
+    say_number(longest_rest);
     say("; a check ");
     say_number(nothing);
     say(", for each root ");

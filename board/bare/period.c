@@ -1,14 +1,15 @@
-/* The watchdog's period, on the edit that takes longest to make again. A start that is given less than the check of the table and that
- * retry never links the edit's new page, however often it is tried; one that is given more does. */
+/* The watchdog's period, on the edit that takes longest to make again. A start that is given less than the check of the table and the retry
+ * up to the link of the new page never links it, however often it is tried. One that is given what the longest start takes ends. */
 #include "worst.h"
 
 enum { INSTRUCTIONS_A_TICK = 100, TRIES = 20 }; /* with -icount shift=0 an instruction takes 1 ns, and a tick is 100 ns */
 enum { TOO_SHORT, LONG_ENOUGH, PERIODS };
+enum { MOST_RESETS = 2 }; /* the edit has one more page to link */
 static const uint64_t percent[PERIODS] = {95, 105};
 
 static uint64_t period(void)
 {
-    return KEPT->retry.instructions * percent[KEPT->round] / 100;
+    return KEPT->retry.start[KEPT->round] * percent[KEPT->round] / 100;
 }
 
 static uint64_t edit(uint64_t limit)
@@ -54,7 +55,7 @@ static void try_period(void)
         say_period("its page is not linked after 20 resets");
     } else {
         start();
-        if (kept->round == TOO_SHORT || kept->resets > 1)
+        if (kept->round == TOO_SHORT || kept->resets > MOST_RESETS)
             fail("the period is not what it was taken for: ", period(), ", resets ", kept->resets);
         say_period("the edit is whole\n");
     }

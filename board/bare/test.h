@@ -81,11 +81,11 @@ struct kept {
     struct firmware found_firmware, left_firmware;
     uint64_t owed[64], power_on, events;
     /* the edit that takes longest to make again up to the link of its new page: how many stores were made before, the word of the link, and
-     * how many instructions a start takes to come there */
+     * how many instructions a start takes, to come to a link and to come to the end of any edit */
     struct retry {
         struct shape shape;
         struct edit edit;
-        uint64_t made, link, instructions;
+        uint64_t made, link, start[2];
     } retry;
 };
 enum { NEVER = MOST_STORES + 1 };

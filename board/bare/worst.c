@@ -28,7 +28,7 @@ static void give_page(uint64_t slot, uint64_t block, uint64_t permission, int la
     page_words(slot)[block] = TYPE(4, FIRST + next_page++);
 }
 
-/* Eight roots with no L1 page. */
+/* So many roots, with no L1 page. */
 void open_roots(uint64_t count)
 {
     for (uint64_t slot = 0; slot < 8; slot++) {
@@ -39,7 +39,7 @@ void open_roots(uint64_t count)
     next_page = count;
 }
 
-/* L1 pages in the last domain that is open, from its highest block down, until so many pages are left. */
+/* L1 pages for a domain, from its highest block down, until so many pages are left. */
 void fill_up(uint64_t slot, uint64_t left)
 {
     for (uint64_t block = PAGE_ENTRIES - 1; next_page + left < LARGEST_PAGES; block--)
