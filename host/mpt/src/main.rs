@@ -1,8 +1,10 @@
 //! `mpt`: runs, tests, measures and draws memory protection tables.
 
+mod answer;
 mod bench;
 mod cases;
 mod command;
+mod fields;
 mod fuzz;
 mod image;
 mod map;

@@ -20,7 +20,10 @@ impl Options {
 
     /// Takes a flag and the words after it, which are called `what`.
     pub fn values<const N: usize>(&mut self, name: &str, what: &str) -> Result<Option<[String; N]>, String> {
-        let Some(at) = self.words.iter().position(|word| word == name) else { return Ok(None) };
+        let at = match self.words.iter().position(|word| word == name) {
+            Some(at) => at,
+            None => return Ok(None),
+        };
         if self.words.len() - at - 1 < N {
             return Err(format!("{name} needs {what} after it"));
         }
@@ -35,8 +38,10 @@ impl Options {
 
     /// Takes a flag and the number after it.
     pub fn number(&mut self, name: &str) -> Result<Option<u64>, String> {
-        let Some(text) = self.value(name)? else { return Ok(None) };
-        crate::command::number(&text).map(Some).map_err(|why| format!("{name} `{text}` {why}"))
+        match self.value(name)? {
+            Some(text) => crate::command::number(&text).map(Some).map_err(|why| format!("{name} `{text}` {why}")),
+            None => Ok(None),
+        }
     }
 
     /// Takes the next word that is no flag.

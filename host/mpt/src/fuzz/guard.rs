@@ -1,11 +1,11 @@
 //! Memory for a library to work on, with pages on both sides that may not be touched: a read or a
 //! write outside it ends the program.
 
-use std::ffi::{c_int, c_void};
+use std::os::raw::{c_int, c_void};
 use std::ptr;
 
 mod c {
-    use std::ffi::{c_int, c_void};
+    use std::os::raw::{c_int, c_void};
 
     extern "C" {
         pub fn mmap(at: *mut c_void, length: usize, may: c_int, flags: c_int, file: c_int, from: i64) -> *mut c_void;
@@ -29,7 +29,7 @@ pub struct Guarded {
 
 impl Guarded {
     pub fn new(most: usize) -> Guarded {
-        let most = (most * 8).next_multiple_of(PAGE) / 8;
+        let most = (most * 8 + PAGE - 1) / PAGE * PAGE / 8;
         // SAFETY: a new mapping; the pages before and after the room stay closed.
         unsafe {
             let all = c::mmap(ptr::null_mut(), most * 8 + 2 * PAGE, 0, PRIVATE_ANONYMOUS, -1, 0);
@@ -78,7 +78,7 @@ pub fn last_words(line: &str) {
 extern "C" fn crashed(_: c_int) {
     // SAFETY: as above; both calls are allowed in a signal handler.
     unsafe {
-        c::write(1, (&raw const LAST_WORDS.0).cast::<c_void>(), LAST_WORDS.1);
+        c::write(1, ptr::addr_of!(LAST_WORDS.0).cast::<c_void>(), LAST_WORDS.1);
         c::_exit(1)
     }
 }

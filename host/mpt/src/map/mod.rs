@@ -8,12 +8,13 @@ mod terminal;
 use crate::command::number;
 use crate::image;
 use crate::options::Options;
+use crate::output;
 use crate::programs::{proved_or, SECOND};
 use crate::run::end_state;
 use mpt_monitor::{Frame, PageNumber, Table};
 use picture::Picture;
 use std::fs;
-use std::io::{self, IsTerminal, Write};
+use std::io::{self, Write};
 
 pub fn main(mut options: Options) -> Result<u8, String> {
     let programs = options.programs(|| vec![proved_or(SECOND)])?;
@@ -33,9 +34,9 @@ pub fn main(mut options: Options) -> Result<u8, String> {
     if let Some(file) = &svg {
         fs::write(file, svg::draw(&picture)).map_err(|error| format!("{file}: {error}"))?;
     }
-    let mut output = io::stdout();
-    let colour = output.is_terminal() && std::env::var_os("NO_COLOR").is_none();
-    output.write_all(terminal::draw(&picture, colour).as_bytes()).map_err(|error| error.to_string())?;
+    let mut standard = io::stdout();
+    let colour = output::is_terminal(1) && std::env::var_os("NO_COLOR").is_none();
+    standard.write_all(terminal::draw(&picture, colour).as_bytes()).map_err(|error| error.to_string())?;
     Ok(0)
 }
 

@@ -228,6 +228,6 @@ pub mod tests {
     fn a_broken_frame_has_no_picture() {
         let mut sides = Sides::new(&[SECOND]);
         sides.obey(&parse("frame 29 1 2").unwrap().unwrap());
-        assert!(Picture::of(sides.table().unwrap()).is_err_and(|why| why.contains("PAW 29")));
+        assert!(Picture::of(sides.table().unwrap()).err().unwrap().contains("PAW 29"));
     }
 }

@@ -62,15 +62,20 @@ struct Layout {
 const PANEL_HEAD: f64 = 88.0;
 const PANEL_GAP: f64 = 44.0;
 
+/// How many rows so many things take.
+fn rows_of(count: usize, to_a_row: usize) -> usize {
+    (count + to_a_row - 1) / to_a_row
+}
+
 fn layout(picture: &Picture) -> Layout {
     let rows = 1usize.max(1 << (picture.paw - 30));
     let count = picture.domains.len().max(1);
     let columns = if count > 2 { 2 } else { 1 };
     let width = if columns == 2 { 905.0 } else { RIGHT - LEFT };
     let label = if columns == 2 { 150.0 } else { 190.0 };
-    let page_rows = picture.pages.len().div_ceil(PAGES_ROW) as f64;
+    let page_rows = rows_of(picture.pages.len(), PAGES_ROW) as f64;
     let room = 2970.0 - TOP - 150.0 - (page_rows * 44.0 + 130.0) - 380.0;
-    let panels = count.div_ceil(columns) as f64;
+    let panels = rows_of(count, columns) as f64;
     let height = ((room / panels - PANEL_HEAD - PANEL_GAP) / rows as f64).clamp(12.0, 90.0);
     let cell = Box { x: 0.0, y: 0.0, width: (width - label) / GIB_BLOCKS as f64, height };
     Layout { columns, label, cell, panel_height: PANEL_HEAD + PANEL_GAP + height * rows as f64 }
@@ -89,7 +94,7 @@ fn domains(sheet: &mut Sheet, picture: &Picture) -> f64 {
         sheet.text(LEFT, top + 40.0, 36.0, "start", "No slot is open.");
         return top + 60.0;
     }
-    top + picture.domains.len().div_ceil(layout.columns) as f64 * layout.panel_height
+    top + rows_of(picture.domains.len(), layout.columns) as f64 * layout.panel_height
 }
 
 fn panel(sheet: &mut Sheet, picture: &Picture, domain: &Domain, layout: &Layout, x: f64, y: f64) {
@@ -189,7 +194,7 @@ fn pages(sheet: &mut Sheet, picture: &Picture, y: f64) -> f64 {
         let place = Box { x: LEFT + label + column as f64 * width, y: top, width, height };
         draw_page(sheet, *page, place, number);
     }
-    y + 54.0 + picture.pages.len().div_ceil(PAGES_ROW) as f64 * 44.0
+    y + 54.0 + rows_of(picture.pages.len(), PAGES_ROW) as f64 * 44.0
 }
 
 fn draw_page(sheet: &mut Sheet, page: Use, place: Box, number: u64) {

@@ -39,7 +39,10 @@ fn left(table: &Table, edit: Edit) -> u64 {
 
 /// A few cuts at places that matter, then the finish.
 pub fn some_cuts(trial: &mut Trial, random: &mut Random, places: &Places, edit: Edit) -> Result<(), Failure> {
-    let Some(whole) = begin(trial, edit)? else { return Ok(()) };
+    let whole = match begin(trial, edit)? {
+        Some(whole) => whole,
+        None => return Ok(()),
+    };
     for _ in 0..1 + random.below(5) {
         let left = left(trial.table(), edit);
         let at = match random.below(8) {
@@ -59,7 +62,10 @@ pub fn some_cuts(trial: &mut Trial, random: &mut Random, places: &Places, edit: 
 
 /// The same edit cut after each number of stores in turn.
 pub fn every_cut(trial: &mut Trial, edit: Edit) -> Result<(), Failure> {
-    let Some(whole) = begin(trial, edit)? else { return Ok(()) };
+    let whole = match begin(trial, edit)? {
+        Some(whole) => whole,
+        None => return Ok(()),
+    };
     for at in 0..=whole.stores {
         let mut once = trial.clone();
         once.tally = Default::default();
@@ -72,9 +78,12 @@ pub fn every_cut(trial: &mut Trial, edit: Edit) -> Result<(), Failure> {
 
 /// The edit uncut: its length is bounded, and it does what is asked.
 fn begin(trial: &mut Trial, edit: Edit) -> Result<Option<Whole>, Failure> {
-    let Some(whole) = whole(trial.table(), edit) else {
-        trial.obey(Command::Edit(edit))?;
-        return Ok(None);
+    let whole = match whole(trial.table(), edit) {
+        Some(whole) => whole,
+        None => {
+            trial.obey(Command::Edit(edit))?;
+            return Ok(None);
+        }
     };
     let mut uncut = trial.clone();
     uncut.obey(Command::Edit(Edit { limit: u64::MAX, ..edit }))?;
@@ -107,7 +116,7 @@ fn finish(trial: &mut Trial, whole: &Whole) -> Result<(), Failure> {
 
 /// The same edit again, which must be accepted.
 fn again(trial: &mut Trial, whole: &Whole, limit: u64) -> Result<(), Failure> {
-    let answer = trial.obey(Command::Edit(Edit { limit, ..whole.edit }))?;
-    let accepted = answer.starts_with("edited");
-    trial.check(accepted.then_some(()).ok_or_else(|| format!("an edit done again after a cut is {answer}")))
+    let reply = trial.obey(Command::Edit(Edit { limit, ..whole.edit }))?;
+    let accepted = reply.edited().is_some();
+    trial.check(accepted.then_some(()).ok_or_else(|| format!("an edit done again after a cut is {reply}")))
 }

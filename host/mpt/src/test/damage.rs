@@ -21,7 +21,10 @@ fn root_index(random: &mut Random, table: &Table) -> Option<usize> {
 /// Keeps a sound table sound, but leaves a form that no edit does: blocks of a GiB in different
 /// forms, pieces that could be one 1G type, L1 pages that say one permission.
 pub fn reshape(random: &mut Random, table: &Table, places: &Places) -> Vec<Command> {
-    let (Some(used), Some(root)) = (used_pages(table), root_index(random, table)) else { return Vec::new() };
+    let (used, root) = match (used_pages(table), root_index(random, table)) {
+        (Some(used), Some(root)) => (used, root),
+        _ => return Vec::new(),
+    };
     let block = places.block(random) as usize;
     let place = root + block;
     let word = match random.below(4) {

@@ -15,7 +15,7 @@ use crate::programs::{self, Program};
 use crate::random::Random;
 use crate::run::DIFFERENT;
 use generate::Places;
-use std::io::{IsTerminal, Write};
+use std::io::Write;
 use std::time::{Instant, SystemTime};
 use tally::Tally;
 use trial::{catching_panics, Failure, Trial};
@@ -52,11 +52,15 @@ fn seed_of_the_clock() -> u64 {
 }
 
 fn show_progress(calls: u64, count: u64) {
-    let mut error = std::io::stderr();
-    if error.is_terminal() {
+    if output::is_terminal(2) {
         let done = (calls.min(count) * 40 / count.max(1)) as usize;
         let end = if calls >= count { "\n" } else { "" };
-        let _ = write!(error, "\r[{}{}] {calls} of {count} calls{end}", "#".repeat(done), "-".repeat(40 - done));
+        let _ = write!(
+            std::io::stderr(),
+            "\r[{}{}] {calls} of {count} calls{end}",
+            "#".repeat(done),
+            "-".repeat(40 - done)
+        );
     }
 }
 
@@ -65,8 +69,8 @@ fn summary(tally: &Tally, seconds: f64) {
     output::line(format!(
         "{calls} calls agree in every answer, word and slot; {cuts} cuts keep demand 3; {seconds:.1} s"
     ));
-    for (answer, times) in tally.answers() {
-        output::line(format!("{times:>10}  {answer}"));
+    for (class, times) in tally.answers() {
+        output::line(format!("{times:>10}  {class}"));
     }
 }
 
@@ -124,6 +128,7 @@ fn call(trial: &Trial, random: &mut Random, places: &Places) -> Command {
     match random.below(10) {
         0 => generate::open(random, table),
         1 if random.percent(60) => generate::close(random, table),
+        1 if random.percent(25) => Command::Sound,
         1..=5 => Command::Edit(generate::edit(random, table, places)),
         _ => generate::lookup(random, table, places),
     }
@@ -147,6 +152,7 @@ fn damaged(trial: &mut Trial, random: &mut Random, places: &Places) -> Result<()
 #[cfg(test)]
 mod tests {
     use super::*;
+    use tally::{Class, FenceKind};
 
     #[test]
     fn a_short_run_meets_every_kind_of_answer() {
@@ -158,12 +164,13 @@ mod tests {
                 break;
             }
         }
-        let met: Vec<&str> = tally.answers().map(|(answer, _)| answer).collect();
-        let wanted = ["allowed", "closed", "opened", "edited all, fence address", "edited all, fence domain"];
-        let cut = ["edited all, fence none", "edited part, fence domain", "edited part, fence none"];
-        let refusals = (1..=8).map(|number| format!("refused {number}"));
-        let faults = [1, 5, 7].map(|cause| format!("fault {cause}"));
-        let all = wanted.into_iter().chain(cut).map(str::to_string).chain(refusals).chain(faults);
-        all.for_each(|answer| assert!(met.contains(&answer.as_str()), "{answer} was never met"));
+        let met: Vec<Class> = tally.answers().map(|(class, _)| class).collect();
+        let edited = |cut, fence| Class::Edited { cut, fence };
+        let whole = [FenceKind::Address, FenceKind::Domain, FenceKind::None].map(|fence| edited(false, fence));
+        let cut = [FenceKind::Domain, FenceKind::None].map(|fence| edited(true, fence));
+        let others = [Class::Allowed, Class::Closed, Class::Opened, Class::Sound];
+        let faults = [1, 5, 7].map(Class::Fault);
+        let all = others.into_iter().chain(whole).chain(cut).chain(faults).chain((1..=8).map(Class::Refused));
+        all.for_each(|class| assert!(met.contains(&class), "{class} was never met"));
     }
 }

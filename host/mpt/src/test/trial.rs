@@ -1,9 +1,10 @@
 //! One sequence of commands on all programs at hand, kept so that it can be run again.
 
 use super::tally::Tally;
+use crate::answer::{Outcome, Reply};
 use crate::command::Command;
 use crate::programs::Program;
-use crate::sides::{Outcome, Sides};
+use crate::sides::Sides;
 use mpt_monitor::Table;
 use std::cell::RefCell;
 use std::panic::{catch_unwind, AssertUnwindSafe};
@@ -46,17 +47,17 @@ impl Trial {
     }
 
     /// Obeys on all sides; the programs must agree on the answer, every word and every slot.
-    pub fn obey(&mut self, command: Command) -> Result<String, Failure> {
+    pub fn obey(&mut self, command: Command) -> Result<Reply, Failure> {
         self.history = Some(Rc::new(Step { command: command.clone(), before: self.history.take() }));
-        NEWEST.set(self.history.clone());
+        NEWEST.with(|newest| *newest.borrow_mut() = self.history.clone());
         match self.sides.obey(&command) {
-            Outcome::Answer(answer) => {
-                if is_call(&command) {
-                    self.tally.count(&answer);
+            Outcome::Answer(reply) => {
+                if let Reply::Call(answer) = reply {
+                    self.tally.count(answer);
                 }
-                Ok(answer)
+                Ok(reply)
             }
-            Outcome::Error(text) => Err(self.failure(format!("a command that should do: {text}"))),
+            Outcome::Error(error) => Err(self.failure(format!("a command that should do: {error}"))),
             Outcome::Differ(how) => Err(self.failure(format!("the programs differ\n{how}"))),
         }
     }
@@ -71,10 +72,6 @@ impl Trial {
     }
 }
 
-fn is_call(command: &Command) -> bool {
-    matches!(command, Command::Open { .. } | Command::Close { .. } | Command::Edit(_) | Command::Lookup { .. })
-}
-
 fn script(history: &History) -> Vec<Command> {
     let steps = std::iter::successors(history.as_deref(), |step| step.before.as_deref());
     let mut commands: Vec<Command> = steps.map(|step| step.command.clone()).collect();
@@ -84,7 +81,8 @@ fn script(history: &History) -> Vec<Command> {
 
 /// A program that panics has failed at the newest command.
 pub fn catching_panics(run: impl FnOnce() -> Result<(), Failure>) -> Result<(), Failure> {
-    let panicked = |_| Failure { what: "a program panicked".to_string(), script: script(&NEWEST.take()) };
+    let newest = || NEWEST.with(|newest| newest.borrow_mut().take());
+    let panicked = |_| Failure { what: "a program panicked".to_string(), script: script(&newest()) };
     catch_unwind(AssertUnwindSafe(run)).unwrap_or_else(|panic| Err(panicked(panic)))
 }
 
