@@ -39,7 +39,7 @@ fn a_closed_pipe_ends_quietly_with_success() {
     let script = file("long");
     fs::write(&script, format!("frame 32 1 2\n{}", "peek 0 512\n".repeat(2000))).unwrap();
     let script = script.to_str().unwrap();
-    for words in [&["run", script][..], &["map", script, "--all"], &["help"], &["cases"]] {
+    for words in [&["run", script, "--second"][..], &["map", script, "--second"], &["help"], &["cases", "--second"]] {
         let mut child = command(words).spawn().unwrap();
         let mut byte = [0];
         if words[0] == "run" {
@@ -87,7 +87,7 @@ fn standard_error_may_be_closed_too() {
 #[test]
 fn a_dash_is_standard_input() {
     let input = b"\xef\xbb\xbfframe 32 0x80000 16\r\nopen 0 5\r\n";
-    for words in [&["run"][..], &["run", "-"]] {
+    for words in [&["run", "--second"][..], &["run", "--second", "-"]] {
         assert_eq!(fed(words, input), (0, "ok\nopened 0x1140000000080000\n".to_string(), String::new()));
     }
     let (status, picture, _) = fed(&["map", "-"], input);

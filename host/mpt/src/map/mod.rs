@@ -130,3 +130,42 @@ fn one_picture(table: &Table, programs: &[Program]) -> Result<Picture, Stop> {
     }
     Ok(first)
 }
+
+#[cfg(test)]
+mod tests {
+    use super::*;
+    use crate::programs::PLAIN;
+    use mpt_monitor::{Answer, Interface, Reading, View, ViewMut, Writing};
+
+    /// A program whose lookups go wrong in one page.
+    struct Misreads;
+
+    impl Interface for Misreads {
+        fn read(&self, table: View<'_>, call: Reading) -> Answer {
+            match call {
+                Reading::Lookup { address, .. } if address.page().0 == 0x40000 => Answer::fault(5),
+                call => PLAIN.interface.read(table, call),
+            }
+        }
+
+        fn write(&self, table: ViewMut<'_>, call: Writing) -> Answer {
+            PLAIN.interface.write(table, call)
+        }
+    }
+
+    #[test]
+    fn programs_that_read_a_table_differently_have_no_picture() {
+        let mut sides = crate::sides::Sides::new(&[SECOND]);
+        for line in ["frame 32 0x80000 16", "open 0 5", "edit 0 0x40000000 0x2000 rw 1536"] {
+            sides.obey(&crate::command::parse(line).unwrap().unwrap());
+        }
+        let table = sides.table().unwrap();
+        let slip = Program { name: "slip", interface: &Misreads };
+        let how = |programs: &[Program]| match one_picture(table, programs) {
+            Ok(_) => None,
+            Err(Stop::Wrong(how) | Stop::Differ(how)) => Some(how),
+        };
+        assert_eq!(how(&[PLAIN, SECOND]), None);
+        assert_eq!(how(&[SECOND, slip]), Some("second and slip read this table differently".to_string()));
+    }
+}

@@ -9,8 +9,10 @@ use super::{LEFT, RIGHT};
 /// From a line to the next.
 pub const LINE: f64 = 27.0;
 const TEXT: f64 = 21.0;
-/// Letters of a line, each 0.6 of its size wide, from the second column to the sheet's edge.
-const LETTERS: usize = ((RIGHT - LEFT - 130.0) / (TEXT * 0.602)) as usize;
+/// How wide a letter is, by its size.
+const LETTER: f64 = 0.602;
+/// Letters of a line from the second column to the sheet's edge.
+const LETTERS: usize = ((RIGHT - LEFT - 130.0) / (TEXT * LETTER)) as usize;
 
 /// The lists above the domains, of at most so many lines each; answers where the next thing can begin.
 pub fn above(sheet: &mut Sheet, picture: &Picture, most: usize, mut y: f64) -> f64 {
@@ -53,7 +55,8 @@ pub fn below(sheet: &mut Sheet, domain: &Domain, place: Box, columns: usize) {
     let most = lines * columns;
     let section = ranges(domain, Some(if domain.ranges.len() > most { most - 1 } else { most }));
     let width = place.width / columns as f64;
-    let how = Type { even: true, ..Type::of((width / 23.5).min(TEXT)) };
+    // small enough that the next column stays free
+    let fit = |text: &str| Type { even: true, ..Type::of(((width - 34.0) / text.len() as f64 / LETTER).min(19.0)) };
     let at = |nth: usize| (place.x + (nth / lines) as f64 * width, place.y + (nth % lines + 1) as f64 * LINE - 6.0);
     for (nth, entry) in section.entries.iter().enumerate() {
         let (x, y) = at(nth);
@@ -63,10 +66,10 @@ pub fn below(sheet: &mut Sheet, domain: &Domain, place: Box, columns: usize) {
         }
         let size = if entry.size.is_empty() { String::new() } else { format!(", {}", entry.size) };
         let text = format!("{} {}{size}", entry.place.replace(" to ", "-"), entry.what);
-        sheet.text(x + 24.0, y, how, &text);
+        sheet.text(x + 24.0, y, fit(&text), &text);
     }
     if let Some(rest) = section.rest(" ranges") {
         let (x, y) = at(section.entries.len());
-        sheet.text(x + 24.0, y, how, &rest);
+        sheet.text(x + 24.0, y, fit(&rest), &rest);
     }
 }

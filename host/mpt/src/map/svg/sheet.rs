@@ -96,7 +96,7 @@ impl Sheet {
     /// A dot in the upper right corner of a box.
     pub fn dot(&mut self, place: Box) {
         let radius = (place.width.min(place.height) * 0.16).min(7.0);
-        let (x, y) = (place.x + place.width - 2.0 * radius, place.y + 2.0 * radius);
+        let (x, y) = (place.x + place.width - 1.5 * radius, place.y + 1.5 * radius);
         self.line(format_args!(r##"<circle cx="{x:.2}" cy="{y:.2}" r="{radius:.2}" fill="#202020"/>"##));
     }
 }
