@@ -104,15 +104,17 @@ impl Outcome {
 
 /// What the commands of a file leave, and each line of it.
 pub struct EndState {
+    /// Of the file.
+    pub name: String,
     pub sides: Sides,
     pub lines: Vec<Line>,
 }
 
 impl EndState {
     pub fn of(programs: &[Program], file: Option<&OsStr>) -> Result<EndState, String> {
-        let (mut sides, mut lines) = (Sides::new(programs), Vec::new());
-        read(&mut sides, &mut Source::open(file)?, |line| lines.push(line))?;
-        Ok(EndState { sides, lines })
+        let (mut source, mut sides, mut lines) = (Source::open(file)?, Sides::new(programs), Vec::new());
+        read(&mut sides, &mut source, |line| lines.push(line))?;
+        Ok(EndState { name: source.name, sides, lines })
     }
 }
 

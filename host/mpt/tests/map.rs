@@ -96,7 +96,8 @@ fn lines_that_are_no_commands_are_all_named_and_nothing_is_drawn() {
     let output = mpt(&["map", &script]);
     let errors = text(&output.stderr);
     assert_eq!((output.status.code(), output.stdout.len()), (Some(2), 0));
-    assert!(errors.contains("line 2: no command `opne`") && errors.contains("line 4: COUNT 0"), "{errors}");
+    assert!(errors.contains(&format!("{script}: line 2: no command `opne`")), "{errors}");
+    assert!(errors.contains(&format!("{script}: line 4: COUNT 0")), "{errors}");
     assert!(errors.contains("2 lines could not be obeyed"), "{errors}");
 }
 

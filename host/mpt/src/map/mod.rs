@@ -97,18 +97,18 @@ fn saved([file, paw, first]: &[OsString; 3]) -> Result<Table, String> {
 
 /// The table that a script leaves, and the commands that it asks in vain.
 fn scripted(programs: &[Program], file: Option<OsString>) -> Result<(Table, Vec<Undone>), Stop> {
-    let EndState { sides, lines } = EndState::of(programs, file.as_deref())?;
+    let EndState { name, sides, lines } = EndState::of(programs, file.as_deref())?;
     let mut errors = 0;
     for line in &lines {
         match &line.outcome {
             Outcome::Answer(_) => {}
             Outcome::Error(error) => {
                 errors += 1;
-                output::complain(format!("line {}: {error}", line.number));
+                output::complain(format!("{name}: line {}: {error}", line.number));
             }
             Outcome::Differ(how) => {
                 let how = how.to_string().replace('\n', "; ");
-                return Err(Stop::Differ(format!("line {}: the programs differ: {how}", line.number)));
+                return Err(Stop::Differ(format!("{name}: line {}: the programs differ: {how}", line.number)));
             }
         }
     }

@@ -86,5 +86,7 @@ pub fn legend() -> String {
         let block = Block { entry: None, form, shade, pieces: [shade; PIECES] };
         text += &format!("<span><i class=\"{}\">{}</i>{about}</span>\n", classes(&block), sign(&block));
     }
-    text + "<span><i class=\"c none lent\"></i>dot: it holds lent pages</span>\n<p>A lent page is R0 the root of slot 0, L0 an L1 page of slot 0, !! used twice, or free.</p>\n</section>\n"
+    text += "<span><i class=\"c none lent\"></i>dot: it holds lent pages</span>\n";
+    text += "<p>A lent page is R0 the root of slot 0, L0 an L1 page of slot 0, !! used twice, or free.</p>\n";
+    text + "</section>\n"
 }

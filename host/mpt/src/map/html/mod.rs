@@ -23,6 +23,10 @@ const HEAD: &str = r#"<!DOCTYPE html>
 <style>
 "#;
 
+/// Where the page tells of a cell.
+const PANEL: &str = "<div id=\"panel\">Point at a cell: its address, its permission and its L2 entry are told here. \
+                     A click keeps them here.</div>\n";
+
 /// Lists are cut short unless `all` of them is asked for.
 pub fn draw(picture: &Picture, all: bool) -> String {
     let most = if all { None } else { Some(MOST) };
@@ -45,7 +49,7 @@ pub fn draw(picture: &Picture, all: bool) -> String {
     }
     page += &pages(picture);
     page += &cell::legend();
-    page += "<div id=\"panel\">Point at a cell: its address, its permission and its L2 entry are told here. A click keeps them here.</div>\n";
+    page += PANEL;
     let _ = write!(page, "<script>\n{}</script>\n</body>\n</html>\n", include_str!("page.js"));
     page
 }
@@ -73,9 +77,9 @@ fn row(entry: &Entry) -> String {
 fn domain(picture: &Picture, domain: &Domain, most: Option<usize>) -> String {
     let register = domain.register;
     let (slot, sdid, root) = (domain.slot, register.sdid().0, register.root().0);
-    let mut text = format!(
-        "<section class=\"domain\" data-name=\"slot {slot}\">\n<h2>Slot {slot}: SDID {sdid}</h2>\n<p><code>mmpt {register}, root page {root:#x}</code></p>\n"
-    );
+    let mut text = format!("<section class=\"domain\" data-name=\"slot {slot}\">\n");
+    let _ = writeln!(text, "<h2>Slot {slot}: SDID {sdid}</h2>");
+    let _ = writeln!(text, "<p><code>mmpt {register}, root page {root:#x}</code></p>");
     text += "<div class=\"row marks\"><b style=\"grid-column: span 1\"></b>";
     for block in (0..GIB_BLOCKS as u64).step_by(8) {
         let _ = write!(text, "<b>+0x{:08x}</b>", block << 25);
@@ -117,8 +121,8 @@ mod tests {
         assert_eq!(page.matches("data-at=\"0x").count(), 2 * 64);
         assert_eq!(page.matches("data-at=\"0x000000000 to 0x001ffffff\" data-permission=\"rx in part\"").count(), 1);
         assert_eq!(page.matches("data-at=\"page 0x4000").count(), 5);
-        let root = "data-at=\"page 0x40000, 0x040000000 to 0x040000fff; root of slot 0\" data-permission=\"open to no domain\"";
-        assert!(page.contains(root));
+        let root = "data-at=\"page 0x40000, 0x040000000 to 0x040000fff; root of slot 0\"";
+        assert!(page.contains(&format!("{root} data-permission=\"open to no domain\"")));
         assert!(page.contains("data-entry=\"L2 entry 0x0000400000040002, TYPE 4: by pages, L1 page 0x40002\""));
         assert!(page.contains("data-ranges=\"0x000000000 to 0x000000fff rx\""));
         assert!(page.contains("<h2 class=\"alarm\">Open to more than one domain, and one of them may write"));

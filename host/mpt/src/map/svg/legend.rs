@@ -31,7 +31,9 @@ const PAGES: [(Use, &str); 4] = [
 ];
 
 pub fn draw(sheet: &mut Sheet, y: f64) {
-    let about = "A cell is a block of 32 MiB, a row is a GiB; a cell has the colour and letter of its strongest permission. A dot: it holds lent pages.";
+    let about =
+        "A cell is a block of 32 MiB, a row is a GiB; it has the colour and letter of its strongest permission. \
+                 A dot: it holds lent pages.";
     sheet.text(LEFT, y + 20.0, Type::of(25.0), about);
     for (nth, (strongest, mixed, form, text)) in SIGNS.into_iter().enumerate() {
         let shade = Shade { strongest, mixed };
