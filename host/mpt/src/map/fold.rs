@@ -61,7 +61,7 @@ pub fn list<T: Join>(ranges: &[Range<T>], most: Option<usize>) -> List<T> {
 fn folded<T: Join>(ranges: &[Range<T>]) -> Vec<Line<T>> {
     let block = |range: &Range<T>| {
         let first = range.start / BLOCK_BYTES;
-        (first == (range.end - 1) / BLOCK_BYTES).then(|| first)
+        (first == (range.end - 1) / BLOCK_BYTES).then_some(first)
     };
     let (mut lines, mut rest) = (Vec::new(), ranges);
     while let Some(first) = rest.first() {

@@ -51,7 +51,7 @@ pub fn main(options: Options) -> Result<u8, String> {
 
 fn draw(mut options: Options) -> Result<u8, Stop> {
     let programs = options.programs(|| vec![proved_or(SECOND)])?;
-    let (svg, html, all) = (target(&mut options, "--svg")?, target(&mut options, "--html")?, options.flag("--all"));
+    let (svg, html, whole) = (target(&mut options, "--svg")?, target(&mut options, "--html")?, options.flag("--whole"));
     let image = options.values::<3>("--image", "FILE PAW FIRST")?;
     let file = options.word();
     options.end()?;
@@ -67,12 +67,12 @@ fn draw(mut options: Options) -> Result<u8, Stop> {
         write(&file, &svg::draw(&picture))?;
     }
     if let Some(file) = html {
-        write(&file, &html::draw(&picture, all))?;
+        write(&file, &html::draw(&picture, whole))?;
     }
     let status = if picture.is_fine() { 0 } else { AMISS };
     output::failed(status);
     let colour = output::is_terminal(1) && std::env::var_os("NO_COLOR").is_none();
-    output::text(&terminal::draw(&picture, colour, all));
+    output::text(&terminal::draw(&picture, colour, whole));
     Ok(status)
 }
 

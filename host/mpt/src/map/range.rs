@@ -25,7 +25,7 @@ impl<T: Copy> Range<T> {
     /// The part of it that lies in `start..end`.
     pub fn within(&self, start: u64, end: u64) -> Option<Range<T>> {
         let (start, end) = (self.start.max(start), self.end.min(end));
-        (start < end).then(|| Range { start, end, what: self.what })
+        (start < end).then_some(Range { start, end, what: self.what })
     }
 }
 
@@ -51,7 +51,7 @@ fn size(bytes: u64) -> String {
 pub fn grouped(number: u64) -> String {
     let digits = number.to_string();
     let comma = |at: usize| at > 0 && (digits.len() - at) % 3 == 0;
-    digits.char_indices().flat_map(|(at, digit)| comma(at).then(|| ',').into_iter().chain([digit])).collect()
+    digits.char_indices().flat_map(|(at, digit)| comma(at).then_some(',').into_iter().chain([digit])).collect()
 }
 
 #[cfg(test)]

@@ -84,9 +84,9 @@ impl Ink {
     }
 }
 
-/// Lists are cut short unless `all` of them is asked for.
-pub fn draw(picture: &Picture, colour: bool, all: bool) -> String {
-    let (ink, most) = (Ink { colour }, if all { None } else { Some(MOST) });
+/// Lists are cut short unless the `whole` is asked for.
+pub fn draw(picture: &Picture, colour: bool, whole: bool) -> String {
+    let (ink, most) = (Ink { colour }, if whole { None } else { Some(MOST) });
     let verdict = verdict(picture);
     let verdict = if picture.is_fine() { verdict } else { ink.alarm(&verdict) };
     let mut text = format!("{}\n{verdict}\n", summary(picture));
@@ -123,7 +123,7 @@ fn entries_text(section: &Section, ink: &Ink) -> String {
         let line = format!("{line} {}", entry.what);
         let _ = writeln!(text, "{}", if section.alarm { ink.alarm(&line) } else { line });
     }
-    if let Some(rest) = section.rest(" (--all lists them)") {
+    if let Some(rest) = section.rest(" (--whole lists them)") {
         let _ = writeln!(text, "  {rest}");
     }
     text
@@ -221,7 +221,7 @@ mod tests {
     }
 
     #[test]
-    fn the_longest_lists_are_cut_short_unless_all_is_asked_for() {
+    fn the_longest_lists_are_cut_short_unless_the_whole_is_asked_for() {
         // two domains with every other page of a block, by the fields of an L1 page
         let mut lines = vec!["frame 30 0x1000 4".to_string(), "open 0 1".to_string(), "open 1 2".to_string()];
         lines.extend((0..2).map(|root| format!("poke {} {:#x}", root * 512, 0x4000_0000_1002u64 + root)));

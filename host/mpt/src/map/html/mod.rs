@@ -7,7 +7,7 @@ use super::picture::{Domain, Picture, GIB_BLOCKS};
 use super::section::{ranges, sections, summary, verdict, Entry, Section};
 use std::fmt::Write;
 
-/// Lines of a list, if not all are asked for.
+/// Lines of a list, if the whole is not asked for.
 const MOST: usize = 500;
 /// Lent pages in a row.
 const ROW_PAGES: usize = 16;
@@ -27,9 +27,9 @@ const HEAD: &str = r#"<!DOCTYPE html>
 const PANEL: &str = "<div id=\"panel\">Point at a cell: its address, its permission and its L2 entry are told here. \
                      A click keeps them here.</div>\n";
 
-/// Lists are cut short unless `all` of them is asked for.
-pub fn draw(picture: &Picture, all: bool) -> String {
-    let most = if all { None } else { Some(MOST) };
+/// Lists are cut short unless the `whole` is asked for.
+pub fn draw(picture: &Picture, whole: bool) -> String {
+    let most = if whole { None } else { Some(MOST) };
     let mut page = format!("{HEAD}{}</style>\n</head>\n<body>\n", include_str!("page.css"));
     page += "<h1>Memory protection table</h1>\n";
     let _ = writeln!(page, "<p>{}</p>", escaped(&summary(picture)));
@@ -61,7 +61,7 @@ fn table(section: &Section) -> String {
         text += &row(entry);
     }
     text += "</table></div>\n";
-    if let Some(rest) = section.rest(" (mpt map --all lists them)") {
+    if let Some(rest) = section.rest(" (mpt map --whole lists them)") {
         let _ = writeln!(text, "<p>{rest}</p>");
     }
     text

@@ -35,7 +35,7 @@ fn entries(sheet: &mut Sheet, section: &Section, mut y: f64) -> f64 {
         sheet.text(x - 30.0, y, Type { anchor: "end", ..how }, &entry.size);
         sheet.text(x, y, how, &shortened(&entry.what, LETTERS));
     }
-    if let Some(rest) = section.rest(" (`mpt map --all` lists them)") {
+    if let Some(rest) = section.rest(" (`mpt map --whole` lists them)") {
         y += LINE;
         sheet.text(LEFT + 20.0, y, how, &rest);
     }
