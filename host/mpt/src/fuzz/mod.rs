@@ -13,7 +13,7 @@ use crate::random::Random;
 use crate::run::DIFFERENT;
 use guard::Guarded;
 use mpt_monitor::{Address, Answer, Call, Frame, Reading, Register, Sdid, Slot, View, ViewMut, Writing, MOST_STORES};
-use std::time::{Duration, Instant};
+use std::time::Instant;
 
 /// How long it runs if no --seconds is given.
 const SECONDS: u64 = 10;
@@ -21,11 +21,11 @@ const SECONDS: u64 = 10;
 const MOST: usize = 6 * 512;
 
 pub fn main(mut options: Options) -> Result<u8, String> {
-    let seconds = options.number("--seconds")?.unwrap_or(SECONDS);
+    let end = options.end_after("--seconds", SECONDS)?;
     let seed = options.number("--seed")?.unwrap_or(1);
     let from = options.number("--round")?.unwrap_or(0);
     options.end()?;
-    let (end, mut calls) = (Instant::now() + Duration::from_secs(seconds), 0);
+    let mut calls = 0;
     let mut fuzz = Fuzz::new(proved_or(PLAIN));
     guard::catch_crashes();
     for round in from.. {
@@ -33,11 +33,12 @@ pub fn main(mut options: Options) -> Result<u8, String> {
         match fuzz.round(&mut Random::new(seed, round)) {
             Ok(made) => calls += made,
             Err(how) => {
+                output::failed(DIFFERENT);
                 output::line(format!("FAILED: mpt fuzz --seed {seed} --round {round}\n{how}"));
                 return Ok(DIFFERENT);
             }
         }
-        if Instant::now() >= end {
+        if end.map_or(false, |end| Instant::now() >= end) {
             let rounds = round - from + 1;
             output::line(format!(
                 "seed {seed}: {rounds} tables, {calls} calls with any values: no crash, all answers, words and slots agree"
