@@ -28,7 +28,7 @@ use Rattle.theory.specs.Rooted.{Rooted}
 use native.Mathlib.Numerals.{add-one}
 use Rattle.forms.proofs.CountLaws.{formOfBlock}
 use Rattle.theory.proofs.SoundRoots.{sound-rooted}
-use Rattle.laws.proofs.Times.{times, times-here}
+use Rattle.laws.proofs.Times.{times, head-times}
 use Rattle.theory.proofs.Finds.{after-outside, after-inside}
 use Rattle.theory.proofs.Forms.{forms-fit, forms-all, forms-length, same-form, same-gib, same-first}
 use Rattle.theory.proofs.Frames.{lent-ppn}
@@ -209,11 +209,6 @@ module _ {f : code.Frame} {m0 : List ℕ} {q : Request} {root : ℕ} {free : Lis
       here′ : Here k limit m b (fm ∷ post′) fr
       here′ = subst (λ (l : List Form). Here k limit m b l fr) e (s .here)
 
-      head-in : (xs : List ℕ) → 1 ≤ length xs → 0 < times (headD xs 0) xs
-      unfolding headD
-      head-in [] h = absurd (omega arith)
-      head-in (x ∷ xs) h = omega (arith, times-here x xs)
-
       one-more : needsPage (formOfBlock G m0 q root b) e₀ ≡ true → 1 ≤ length fr
       unfolding newPages
       one-more z = let y : needsPage fm e₀ ≡ true = ap (λ (x : Form). needsPage x e₀) is-named ∙ z in omega (arith, rw y at (here′ .enough))
@@ -221,7 +216,7 @@ module _ {f : code.Frame} {m0 : List ℕ} {q : Request} {root : ℕ} {free : Lis
       fresh-of : Fresh (frameOf f m) m q root gib b (headD fr 0)
       fresh-of =
           subst (λ (X : Frame). Fresh X m q root gib b (headD fr 0)) (sym (frame-same f m m0 size))
-          (λ z. let g = here′ .isFree (headD fr 0) (head-in fr (one-more (sym need-here ∙ z))) in (g .0, lent-ppn G (k .ok) (headD fr 0) (g .0)))
+          (λ z. let g = here′ .isFree (headD fr 0) (head-times fr (one-more (sym need-here ∙ z))) in (g .0, lent-ppn G (k .ok) (headD fr 0) (g .0)))
 
       abbrev ss : List Store
       ss = blockStores G m0 q root fm e₀ b (headD fr 0)
