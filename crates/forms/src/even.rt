@@ -7,6 +7,7 @@ use types::Request;
 use types::pages::cut;
 use types::Entry;
 use types::Edit;
+use table::word::PERMISSION_BITS;
 use table::word::piece;
 use table::board::EACH_PIECE;
 use table::board::PIECES;
@@ -55,8 +56,8 @@ pub fn even_form(edit: Edit, words: &[Word], e: Entry, b: u64, info: u64) -> For
     let low = cut((first + PIECE_LAST) / PIECE_PAGES, b * PIECES, PIECES);
     let high = cut((past + PIECE_LAST) / PIECE_PAGES, b * PIECES, PIECES);
     Form::Pieces(splice(
-        splice(info, edit.q.permission * EACH_PIECE, 2 * low),
+        splice(info, edit.q.permission * EACH_PIECE, PERMISSION_BITS * low),
         info,
-        2 * high,
+        PERMISSION_BITS * high,
     ))
 }

@@ -12,7 +12,7 @@ use types::Entry;
 use types::Edit;
 use table::word::piece;
 use table::board::EACH_PIECE;
-use table::board::FIELD;
+use table::word::FIELD_VALUES;
 use table::board::PIECES;
 use table::board::PIECE_PAGES;
 use table::board::PIECE_WORDS;
@@ -128,7 +128,7 @@ pub fn piece_first(edit: Edit, words: &[Word], e: Entry, b: u64, i: u64) -> u64
     requires { ⌜ (b < BLOCKS) × (i < PIECES) × Fair (edit .q) × Good (frameOf (edit .f) (now words)) (now words) (entryOf e) ⌝ }
     ensures { λ r. ⌜ (r ≡ afterIn (frameOf (edit .f) (now (words .entry))) (now (words .entry)) (requestOf (edit .q)) (entryOf e) (b * blockPages + i * PIECE)) × (r < 4) ⌝ }
 {
-    after_word(edit, words, e, b, i * PIECE_WORDS) as u64 % FIELD
+    after_word(edit, words, e, b, i * PIECE_WORDS) as u64 % FIELD_VALUES
 }
 
 // The same for a piece outside the range.
@@ -136,7 +136,7 @@ fn old_first(edit: Edit, words: &[Word], e: Entry, b: u64, i: u64) -> u64
     requires { ⌜ (b < BLOCKS) × (i < PIECES) × Fair (edit .q) × Good (frameOf (edit .f) (now words)) (now words) (entryOf e) × Lies (requestOf (edit .q)) (b * blockPages + i * PIECE) PIECE Place.Outside ⌝ }
     ensures { λ r. ⌜ (r ≡ afterIn (frameOf (edit .f) (now (words .entry))) (now (words .entry)) (requestOf (edit .q)) (entryOf e) (b * blockPages + i * PIECE)) × (r < 4) ⌝ }
 {
-    old_word(edit.f, words, e, i * PIECE_WORDS) as u64 % FIELD
+    old_word(edit.f, words, e, i * PIECE_WORDS) as u64 % FIELD_VALUES
 }
 
 // A piece outside the range: its permission, and whether it is all the piece's.

@@ -15,6 +15,7 @@ use table::board::PIECE_WORDS;
 use table::board::Word;
 use table::board::narrow;
 use table::lent::page_at;
+use table::word::FIELD_BITS;
 use table::word::piece;
 ghost use mathlib.Core.Path.{_≡_};
 ghost use Prim.Native.Nat.{_+_, _*_, _/_, _%_, _≤_, _<_, _^_};
@@ -58,7 +59,7 @@ fn splice_fields(low: Word, high: Word, k: u64) -> Word
     if k == FIELDS {
         return low;
     }
-    narrow(splice(low as u64, high as u64, 4 * k))
+    narrow(splice(low as u64, high as u64, FIELD_BITS * k))
 }
 
 // The L1 entry of the pages from s that stands across an end of the range.

@@ -19,9 +19,10 @@ use Rattle.model.specs.Numbers.{every, digit}
 use Rattle.model.specs.Walk.{found}
 use Rattle.theory.specs.Rooted.{Good}
 use Rattle.shapes.specs.Words.{flatInfo}
-use Rattle.shapes.specs.Blocks.{Cut, Even, Mixes}
+use Rattle.shapes.specs.Blocks.{Even, Mixes}
+use Rattle.types.specs.Range.{Cut}
 use Rattle.shapes.proofs.Shape.{Shape, piece-pos, pieces-pos, piece-in-block, piece-number, piece-parts, piece-lt, piece-of}
-use Rattle.shapes.proofs.InRange.{firstPage, pastPage, within, under, over, empty-false, end-first, end-past}
+use Rattle.laws.proofs.InRange.{firstPage, pastPage, within, under, over, empty-false, end-first, end-past}
 use Rattle.shapes.proofs.Fields.{ceil-gt, ceil-le, const-digit, every-fail, pack-const}
 use Rattle.shapes.proofs.FormLaws.{firstOf, isOne, form-table, known-form, info-pack}
 
