@@ -1,9 +1,10 @@
 // Codes and words: what C asks and is answered.
-use crate::PermissionCode;
 use crate::KindCode;
+use crate::PermissionCode;
 use crate::PrivilegeCode;
 use monitor::Outcome;
 use monitor::Reply;
+use table::board::Word;
 use types::Access;
 use types::Answer;
 use types::Fence;
@@ -12,7 +13,6 @@ use types::Permission;
 use types::Privilege;
 use types::number;
 use types::rights;
-use table::board::Word;
 ghost use mathlib.Core.Path.{_≡_};
 ghost use Prim.Native.Nat.{ℕ, _<_, _^_};
 ghost use lib.ListN.{getD};

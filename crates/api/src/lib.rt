@@ -4,12 +4,14 @@ mod code;
 
 use crate::code::answer_word;
 use crate::code::fault_word;
+use crate::code::kind_at;
 use crate::code::permission_at;
+use crate::code::privilege_at;
 use crate::code::reply_word;
 use crate::code::slot_at;
-use crate::code::kind_at;
-use crate::code::privilege_at;
 use monitor::Outcome;
+use table::board::Word;
+use table::board::wide;
 use types::Address;
 use types::Admission;
 use types::Frame;
@@ -19,8 +21,6 @@ use types::Permission;
 use types::Privilege;
 use types::Sdid;
 use types::number::of_refusal;
-use table::board::Word;
-use table::board::wide;
 ghost use mathlib.Core.Path.{_≡_};
 ghost use mathlib.Core.List.{List};
 ghost use Prim.Native.Nat.{ℕ, _/_};
@@ -139,7 +139,13 @@ pub extern "C" fn mpt_open(
 }
 
 #[no_mangle]
-pub extern "C" fn mpt_close(paw: u64, first: u64, words: &[Word], slots: &[Word; 8], slot: u64) -> u64
+pub extern "C" fn mpt_close(
+    paw: u64,
+    first: u64,
+    words: &[Word],
+    slots: &[Word; 8],
+    slot: u64,
+) -> u64
     ensures { λ r. ⌜ r ≡ doneWord (closeSlot (boardFrame paw first (length (now (words .entry)) / WORDS)) (now (words .entry)) (now (slots .entry)) slot) ⌝ }
 {
     let f = Frame {

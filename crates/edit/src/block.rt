@@ -1,30 +1,30 @@
 // The stores of one block.
-use types::pages::GIB_BLOCKS;
-use types::Step;
-use types::Budget;
-use types::Progress;
 use entries::link::link_table;
 use entries::own::own_table;
 use entries::put::put_changed;
 use entries::rows::flat_entries;
 use entries::rows::pieces_row;
-use types::Form;
-use types::Gib;
 use forms::blocks::block_form;
-use table::root::entry_at;
-use types::blocks::next_page;
-use types::blocks::page_from;
-use types::pages::blocks_outside;
-use table::lent::page_at;
-use types::Free;
-use types::Entry;
-use types::Edit;
-use types::NewPage;
-use types::PageNumber;
 use table::board::PIECE_ENTRY;
 use table::board::TYPE;
 use table::board::Word;
 use table::board::narrow;
+use table::lent::page_at;
+use table::root::entry_at;
+use types::Budget;
+use types::Edit;
+use types::Entry;
+use types::Form;
+use types::Free;
+use types::Gib;
+use types::NewPage;
+use types::PageNumber;
+use types::Progress;
+use types::Step;
+use types::blocks::next_page;
+use types::blocks::page_from;
+use types::pages::GIB_BLOCKS;
+use types::pages::blocks_outside;
 ghost use Rattle.model.specs.Layout.{gibBlocks};
 ghost use mathlib.Core.Path.{_≡_};
 ghost use mathlib.Core.Bool.{true, false};
@@ -55,7 +55,14 @@ fn put_entry(edit: Edit, words: &mut [Word], b: u64, word: Word, left: Budget) -
 }
 
 // The stores of a block that is to have an L1 page.
-fn table_stores(edit: Edit, words: &mut [Word], e: Entry, b: u64, new: PageNumber, left: Budget) -> Progress
+fn table_stores(
+    edit: Edit,
+    words: &mut [Word],
+    e: Entry,
+    b: u64,
+    new: PageNumber,
+    left: Budget,
+) -> Progress
     ghost { List Store }
     requires { λ ss. ⌜ ss ≡ blockStores (frameOf (edit .f) (now words)) (now words) (requestOf (edit .q)) (edit .root .0) wantTable (entryOf e) b (new .0) ⌝ }
     requires { λ ss. ⌜ (b < BLOCKS) × Fair (edit .q) × Good (frameOf (edit .f) (now words)) (now words) (entryOf e) × (lent (frameOf (edit .f) (now words)) (edit .root .0) ≡ true)
@@ -65,7 +72,11 @@ fn table_stores(edit: Edit, words: &mut [Word], e: Entry, b: u64, new: PageNumbe
     if let Entry::Table(t) = e {
         return own_table(edit, words, t, b, left);
     }
-    let page = NewPage { e: e, b: b, page: new };
+    let page = NewPage {
+        e: e,
+        b: b,
+        page: new,
+    };
     link_table(edit, words, page, left)
 }
 

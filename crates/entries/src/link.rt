@@ -1,14 +1,14 @@
 // A block that gets a new L1 page: the stores that fill the page, and then the one that links it.
-use types::Budget;
-use types::Progress;
 use crate::fresh;
 use crate::put::put;
-use table::lent::page_at;
-use types::Edit;
-use types::NewPage;
 use table::board::TABLE_ENTRY;
 use table::board::Word;
 use table::board::narrow;
+use table::lent::page_at;
+use types::Budget;
+use types::Edit;
+use types::NewPage;
+use types::Progress;
 ghost use mathlib.Core.Path.{_≡_};
 ghost use mathlib.Core.Bool.{true};
 ghost use mathlib.Core.List.{List, [], _∷_};

@@ -1,8 +1,8 @@
 // One store, if the limit allows one more.
+use table::board::Word;
+use table::store::store_word;
 use types::Budget;
 use types::Progress;
-use table::store::store_word;
-use table::board::Word;
 ghost use mathlib.Core.Path.{_≡_};
 ghost use mathlib.Core.List.{List, [], _∷_};
 ghost use Prim.Native.Nat.{_<_};

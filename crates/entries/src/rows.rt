@@ -1,16 +1,16 @@
 // Rows: neighbouring entries of a root, each stored if it changes.
-use types::Budget;
-use types::RowProgress;
-use types::Progress;
 use crate::put::put_changed;
 use crate::put::put_next;
-use types::Entry;
-use types::pages::GIB_BLOCKS;
-use table::word::decode;
 use table::board::EACH_PIECE;
 use table::board::PIECE_ENTRY;
 use table::board::Word;
 use table::board::narrow;
+use table::word::decode;
+use types::Budget;
+use types::Entry;
+use types::Progress;
+use types::RowProgress;
+use types::pages::GIB_BLOCKS;
 ghost use mathlib.Core.Path.{_≡_};
 ghost use mathlib.Core.List.{List};
 ghost use Prim.Native.Nat.{ℕ, _+_, _≤_, _<_};

@@ -1,4 +1,12 @@
 // L1 entries, as they stand and once the edit is whole.
+use table::board::EACH_FIELD;
+use table::board::FIELDS;
+use table::board::PIECE_WORDS;
+use table::board::Word;
+use table::board::narrow;
+use table::lent::page_at;
+use table::word::FIELD_BITS;
+use table::word::piece;
 use types::Edit;
 use types::Entry;
 use types::Frame;
@@ -9,14 +17,6 @@ use types::pages::BLOCK_PAGES;
 use types::pages::PAGE_BYTES;
 use types::pages::cut;
 use types::pages::lies;
-use table::board::EACH_FIELD;
-use table::board::FIELDS;
-use table::board::PIECE_WORDS;
-use table::board::Word;
-use table::board::narrow;
-use table::lent::page_at;
-use table::word::FIELD_BITS;
-use table::word::piece;
 ghost use mathlib.Core.Path.{_≡_};
 ghost use Prim.Native.Nat.{_+_, _*_, _/_, _%_, _≤_, _<_, _^_};
 ghost use Rattle.types.specs.Range.{Fair};

@@ -1,9 +1,9 @@
 // Whether an edit may have its range: the two tests that document 01 makes of it.
-use types::pages::PAGE_BYTES;
-use types::Request;
-use types::Frame;
 use table::board::PAGE_WORDS;
+use types::Frame;
+use types::Request;
 use types::bits::pow2;
+use types::pages::PAGE_BYTES;
 ghost use mathlib.Core.Path.{_≡_};
 ghost use mathlib.Core.Bool.{true, false, not, _&&_};
 ghost use lib.Dec.{eqb};

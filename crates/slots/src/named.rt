@@ -1,7 +1,7 @@
 // What a call asks of the slot that it names, and which SDIDs are in use.
-use types::Sdid;
-use table::register;
 use table::board::Word;
+use table::register;
+use types::Sdid;
 ghost use mathlib.Core.Path.{_≡_};
 ghost use Rattle.model.specs.Numbers.{member};
 ghost use Rattle.slots.specs.Named as spec;

@@ -1,17 +1,17 @@
 // The whole-table check: one pass, each entry read once, with a mark for each page in use.
 pub mod pick;
 
+use table::board::PAGE_WORDS;
+use table::board::RESERVED;
+use table::board::Word;
+use table::lent;
+use table::register;
+use table::word;
 use types::Admission;
 use types::Entry;
 use types::Frame;
 use types::PageNumber;
 use types::Refusal;
-use table::lent;
-use table::board::PAGE_WORDS;
-use table::board::RESERVED;
-use table::board::Word;
-use table::register;
-use table::word;
 ghost use mathlib.Core.Path.{_≡_};
 ghost use mathlib.Core.Bool.{true, false};
 ghost use Prim.Native.Nat.{_+_, _≤_};

@@ -1,9 +1,9 @@
 // The frame: its bounds, which pages are lent, and where their words stand.
+use crate::board::PAGE_WORDS;
+use crate::board::Word;
 use types::Frame;
 use types::PageNumber;
 use types::bits::pow2;
-use crate::board::PAGE_WORDS;
-use crate::board::Word;
 ghost use mathlib.Core.Path.{_≡_};
 ghost use mathlib.Core.Bool.{true};
 ghost use Prim.Native.Nat.{_+_, _-_, _≤_, _^_};

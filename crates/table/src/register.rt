@@ -1,6 +1,4 @@
 // The register mmpt: PPN, WPRI, SDID, MODE.
-use types::PageNumber;
-use types::Sdid;
 use crate::board::MODE;
 use crate::board::SDID;
 use crate::board::WPRI;
@@ -8,6 +6,8 @@ use crate::board::WPRI_VALUES;
 use crate::board::Word;
 use crate::board::narrow;
 use crate::board::wide;
+use types::PageNumber;
+use types::Sdid;
 ghost use mathlib.Core.Path.{_≡_};
 ghost use Prim.Native.Nat.{_<_, _^_};
 ghost use Rattle.table.specs.Board.{board};

@@ -1,12 +1,12 @@
 // Entries of the tables. L2: INFO, TYPE, ZERO. L1: fields of four bits.
-use types::Entry;
-use types::Found;
-use types::PageNumber;
 use crate::board::PIECE_INFO;
 use crate::board::PIECE_TYPE;
 use crate::board::TABLE_TYPE;
 use crate::board::TYPE;
 use crate::board::Word;
+use types::Entry;
+use types::Found;
+use types::PageNumber;
 use types::rights::permission_of;
 ghost use mathlib.Core.Path.{_≡_};
 ghost use Prim.Native.Nat.{_<_};
