@@ -1,4 +1,4 @@
--- The code's types as the model's, and what the contracts ask of them.
+-- What the contracts say of entries, pieces, blocks and GiBs, once the edit is whole.
 use mathlib.Core.Path.{_≡_}
 use mathlib.Core.Bool.{Bool}
 use mathlib.Core.List.{List}

@@ -1,3 +1,4 @@
+-- `edit::fence_of` meets its contract: each test in the order of the definition.
 use mathlib.Core.Path.{sym, _∙_}
 use borrow.Author.Tests.{eq-eqb, ne-eqb, not-true, not-false}
 use borrow.Author.Needs.{needs}

@@ -1,3 +1,4 @@
+-- `edit::make` meets its contract: all stores were made, or the limit cut them; the count, the fence and the memory follow from that.
 use mathlib.Core.Path.{_≡_, refl, sym, ap, ap₂, _∙_, subst}
 use mathlib.Core.Bool.{Bool, true, false}
 use mathlib.Core.List.{List}

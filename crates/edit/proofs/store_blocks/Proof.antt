@@ -1,3 +1,4 @@
+-- `edit::store_blocks` meets its contract: the loop's invariant is `LoopInvariant`: what is left of the edit decides the whole.
 use mathlib.Core.List.{List}
 use Rattle.types.specs.declared.Frame as code
 use Rattle.types.specs.declared.Request as code′

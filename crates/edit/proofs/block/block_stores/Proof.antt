@@ -1,3 +1,4 @@
+-- `edit::block::block_stores` meets its contract: by the finished form: its entry, or its L1 page.
 use mathlib.Core.Path.{_≡_, refl, sym, ap, _∙_, subst}
 use Prim.Native.Nat.{ℕ, _<_, _^_}
 use native.Mathlib.Omega.{arith}

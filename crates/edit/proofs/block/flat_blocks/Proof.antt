@@ -1,3 +1,4 @@
+-- `edit::block::flat_blocks` meets its contract: in a GiB of one permission each block has one entry to store, so the row's stores are its blocks'.
 use mathlib.Core.Path.{_≡_, sym, ap, ap₂, _∙_}
 use mathlib.Core.List.{List}
 use Prim.Native.Nat.{ℕ, _+_, _-_, _*_, _%_, _≤_, _<_}

@@ -1,3 +1,4 @@
+-- `edit::block::mixed_blocks` meets its contract: outside the range a block without an L1 page has one entry to store; if the first one has such a page, nothing was stored yet.
 use mathlib.Core.Path.{_≡_, sym, ap, _∙_, subst}
 use mathlib.Core.List.{List, headD}
 use Prim.Native.Nat.{ℕ, _+_, _-_, _%_, _^_, _≤_, _<_}

@@ -1,3 +1,4 @@
+-- `edit::block::one_block` meets its contract: the form, the page and the stores that the code takes are those of the block.
 use mathlib.Core.Path.{_≡_, refl, sym, ap, ap₂, _∙_, subst}
 use mathlib.Core.Bool.{Bool, true}
 use mathlib.Core.List.{List, headD}

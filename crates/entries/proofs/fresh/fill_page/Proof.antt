@@ -1,3 +1,4 @@
+-- `entries::fresh::fill_page` meets its contract: three runs of entries, below the range, at it and above, are the page.
 use mathlib.Core.Path.{_≡_, refl, sym, ap, _∙_}
 use mathlib.Core.List.{List, _++_}
 use Prim.Native.Nat.{ℕ, _-_}

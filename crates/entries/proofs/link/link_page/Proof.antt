@@ -1,3 +1,4 @@
+-- `entries::link::link_page` meets its contract: the word names the page, and its store is the next one.
 use borrow.Author.Needs.{needs}
 use Rattle.table.specs.Board.{frameOf}
 use Rattle.entries.proofs.Places.{next-store, stored}

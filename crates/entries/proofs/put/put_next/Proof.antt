@@ -1,3 +1,4 @@
+-- `entries::put::put_next` meets its contract: one store of the list, and the budget that it leaves.
 use mathlib.Core.Path.{sym, ap, _∙_}
 use Prim.Native.Nat.{_-_}
 use native.Mathlib.Omega.{arith}

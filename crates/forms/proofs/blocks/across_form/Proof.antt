@@ -1,3 +1,4 @@
+-- `forms::blocks::across_form` meets its contract: an entry without an L1 page is of whole pieces.
 use Prim.Native.Nat.{_/_, _<_}
 use native.Mathlib.Omega.{arith}
 use lib.ListN.{length}

@@ -1,3 +1,4 @@
+-- `forms::blocks::outside_form` meets its contract: outside the range the form is what the entry says, by pieces.
 use mathlib.Core.Path.{_≡_, refl, sym, ap, _∙_}
 use Prim.Native.Nat.{ℕ, _/_, _<_}
 use native.Mathlib.Omega.{arith}

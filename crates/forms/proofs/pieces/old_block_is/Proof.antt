@@ -1,3 +1,4 @@
+-- `forms::pieces::old_block_is` meets its contract: by what the block's entry says; with an L1 page, by its pieces.
 use Rattle.model.specs.Entry.{pieces}
 use mathlib.Core.Path.{_≡_}
 use Prim.Native.Nat.{_*_, _/_, _<_}

@@ -1,3 +1,4 @@
+-- `forms::pieces::words_are` meets its contract: the entries that are left decide the whole piece.
 use mathlib.Core.Path.{ap₂}
 use mathlib.Core.Path.{_≡_, refl, sym, ap, _∙_}
 use mathlib.Core.Bool.{Bool, true, false}
