@@ -1,6 +1,6 @@
 //! The command line after the first word.
 
-use crate::programs::{proved_or, Program, PLAIN, PROVED, SECOND};
+use crate::programs::{self, proved_or, Program, PLAIN, PROVED, SECOND};
 
 /// Flags by name, and the other words in order.
 pub struct Options {
@@ -58,14 +58,15 @@ impl Options {
         }
     }
 
-    /// The programs asked for by --proved, --second, --plain or --both; `default` if none.
+    /// The programs asked for by --proved, --second, --plain, --both or --all; `default` if none.
     pub fn programs(&mut self, default: fn() -> Vec<Program>) -> Result<Vec<Program>, String> {
-        let names = ["--proved", "--second", "--plain", "--both"];
+        let names = ["--proved", "--second", "--plain", "--both", "--all"];
         let asked: Vec<&str> = names.into_iter().filter(|name| self.flag(name)).collect();
         match asked[..] {
             [] => Ok(default()),
             ["--second"] => Ok(vec![SECOND]),
             ["--plain"] => Ok(vec![PLAIN]),
+            ["--all"] => Ok(programs::all()),
             ["--both"] => Ok(vec![proved_or(PLAIN), SECOND]),
             ["--proved"] => match PROVED {
                 Some(program) => Ok(vec![program]),
