@@ -6,7 +6,7 @@ use super::generate::lookup;
 use super::layout::linked;
 use super::places::Places;
 use super::reading::{frame, free_count, reads_as_asked, reads_as_before_or_after, reads_the_same};
-use super::segments::{kinds, places as cut_places, segments};
+use super::segments::{kinds, places as cut_places, segments, Kind};
 use super::trial::{Failure, Trial};
 use crate::command::Command;
 use crate::random::Random;
@@ -39,18 +39,25 @@ pub fn some_cuts(trial: &mut Trial, random: &mut Random, places: &Places, edit: 
         None => return Ok(()),
     };
     for _ in 0..1 + random.below(4) {
-        let left = kinds(trial.table(), edit).unwrap_or_default();
-        let by_segment = cut_places(&left);
-        if by_segment.is_empty() {
-            break;
-        }
-        let (_, places_there) = &by_segment[random.below(by_segment.len() as u64) as usize];
-        let at = places_there[random.edge(places_there.len() as u64) as usize] as u64;
+        let at = match cut_place(random, &kinds(trial.table(), edit).unwrap_or_default()) {
+            Some(at) => at,
+            None => break,
+        };
         cut(trial, &whole, at)?;
         let lookup = lookup(random, trial.table(), places);
         trial.obey(lookup)?;
     }
     finish(trial, &whole)
+}
+
+/// A cut in some segment of a list, the rare ones first; nothing if there is nothing to cut.
+fn cut_place(random: &mut Random, left: &[Kind]) -> Option<u64> {
+    let mut all = cut_places(left);
+    if random.percent(50) && all.iter().any(|(segment, _)| segment.is_rare()) {
+        all.retain(|(segment, _)| segment.is_rare());
+    }
+    let (_, there) = all.get(random.below(all.len().max(1) as u64) as usize)?;
+    Some(there[random.edge(there.len() as u64) as usize] as u64)
 }
 
 /// The same edit cut after each number of stores in turn.

@@ -13,6 +13,7 @@ mod layout;
 mod outside;
 mod places;
 mod reading;
+mod report;
 mod rules;
 mod segments;
 mod sequence;
@@ -29,10 +30,9 @@ use crate::run::DIFFERENT;
 use std::io::Write;
 use std::thread::available_parallelism;
 use std::time::{Instant, SystemTime};
-use tally::Tally;
-use workers::{Failed, Plan};
+use workers::Plan;
 
-/// Calls made on each program if no --count is given; a run of as many must meet every class.
+/// Calls made on each program if no --count is given.
 const COUNT: u64 = 200_000;
 
 pub fn main(mut options: Options) -> Result<u8, String> {
@@ -52,10 +52,12 @@ pub fn main(mut options: Options) -> Result<u8, String> {
     let threads = if sequence.is_some() { 1 } else { threads };
     let plan = Plan { seed, from: sequence.unwrap_or(0), count, threads };
     let (tally, failed) = workers::run(programs::all, plan, |calls| show_progress(calls, count));
-    Ok(match failed {
-        Some(failed) => report(seed, &tally, &failed),
-        None => summary(&tally, count, start.elapsed().as_secs_f64()),
-    })
+    let (status, lines) = match failed {
+        Some(failed) => (DIFFERENT, report::failed(seed, &tally, &failed)),
+        None => report::passed(&tally, count, start.elapsed().as_secs_f64()),
+    };
+    lines.iter().for_each(output::line);
+    Ok(status)
 }
 
 fn seed_of_the_clock() -> u64 {
@@ -74,47 +76,4 @@ fn show_progress(calls: u64, count: u64) {
             "-".repeat(40 - done)
         );
     }
-}
-
-/// What was reached, and whether that was everything. A short run is not asked for everything.
-fn summary(tally: &Tally, count: u64, seconds: f64) -> u8 {
-    let Tally { calls, cuts, .. } = tally;
-    output::line(format!(
-        "{calls} calls agree in every answer, word and slot; {cuts} cuts keep demand 3; {seconds:.1} s"
-    ));
-    if count == 0 {
-        return 0;
-    }
-    tally.summary().iter().for_each(output::line);
-    let missing = tally.missing();
-    match missing.len() {
-        0 => output::line("every class was reached"),
-        many if count < COUNT => {
-            output::line(format!("{many} classes were not reached; that is asked of {COUNT} calls and more"));
-            return 0;
-        }
-        many => {
-            output::line(format!("FAILED: {many} classes were never reached:"));
-            for class in missing {
-                let (table, row, column) = class.place();
-                output::line(format!("  {table}: {row} {column} ({class:?})"));
-            }
-            return DIFFERENT;
-        }
-    }
-    0
-}
-
-/// The failure, and how to see it again.
-fn report(seed: u64, before: &Tally, failed: &Failed) -> u8 {
-    let Failed { sequence, failure } = failed;
-    let here = failure.script.iter().filter(|command| command.call().is_some()).count() as u64;
-    output::line(format!("\nFAILED after {} calls, in sequence {sequence}: {}", before.calls + here, failure.what));
-    output::line(format!("# the same again: mpt test --seed {seed} --sequence {sequence}"));
-    output::line(match failure.by_script {
-        true => "# the lines from here on are for `mpt run FILE --all`, whose last answer shows it",
-        false => "# the commands up to there, in the language of `mpt run`; their answers agree",
-    });
-    failure.script.iter().for_each(output::line);
-    DIFFERENT
 }

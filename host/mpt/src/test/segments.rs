@@ -57,6 +57,16 @@ impl Segment {
         }
     }
 
+    /// Where two different things meet and few lists have them.
+    pub fn is_rare(self) -> bool {
+        match self {
+            Segment::Between(Kind::New, _) => false,
+            Segment::Between(last, next) => last != next && last != Kind::Flat && next != Kind::Flat,
+            Segment::NewAfterUnlink => true,
+            Segment::Start(_) | Segment::End(_) => false,
+        }
+    }
+
     pub fn place(self) -> (String, String) {
         let name = |kind: Kind| KINDS[kind as usize].1;
         let (row, column) = match self {

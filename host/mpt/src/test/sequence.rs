@@ -17,8 +17,8 @@ use mpt_monitor::Table;
 pub fn run(programs: &[Program], random: &mut Random) -> Result<Tally, Failure> {
     let mut trial = Trial::new(programs);
     let size = match random.below(1000) {
-        0..=899 => Size::Small,
-        900..=949 => Size::Middle,
+        0..=859 => Size::Small,
+        860..=929 => Size::Middle,
         _ => Size::Large,
     };
     let odd = match random.below(100) {
@@ -48,8 +48,11 @@ fn large(trial: &mut Trial, random: &mut Random, places: &Places) -> Result<(), 
     if let Some(edit) = edits::for_a_new_page(random, trial.table()) {
         cuts::some_cuts(trial, random, places, edit)?;
     }
-    let open = generate::open(random, trial.table());
-    trial.obey(open).map(drop)
+    for _ in 0..2 {
+        let open = generate::open(random, trial.table());
+        trial.obey(open)?;
+    }
+    Ok(())
 }
 
 /// Every call on a frame that breaks a bound, or just not.

@@ -65,11 +65,21 @@ impl Grid {
         *cell = (cell.0 + times, cell.1.min(times));
     }
 
+    /// The columns as they came; numbers in their order.
+    fn order(&self) -> Vec<usize> {
+        let mut order: Vec<usize> = (0..self.columns.len()).collect();
+        let numbers: Option<Vec<u64>> = self.columns.iter().map(|name| name.parse().ok()).collect();
+        if let Some(numbers) = numbers {
+            order.sort_by_key(|&column| numbers[column]);
+        }
+        order
+    }
+
     fn lines(&self, name: &str) -> Vec<String> {
         let wide = self.rows.iter().map(String::len).max().unwrap_or(0).max(4);
         let width = |column: usize| self.columns[column].len().max(9);
         let line = |head: &str, cells: &dyn Fn(usize) -> String| {
-            let cells: String = (0..self.columns.len()).map(|n| format!(" {:>1$}", cells(n), width(n))).collect();
+            let cells: String = self.order().into_iter().map(|n| format!(" {:>1$}", cells(n), width(n))).collect();
             format!("  {head:<wide$}{cells}").trim_end().to_string()
         };
         let mut lines = vec![name.to_string()];
