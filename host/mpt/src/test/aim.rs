@@ -34,9 +34,9 @@ pub fn walk_to(table: &Table, index: usize) -> Option<Walk> {
 /// A lookup by that walk: of the field that holds a bit, or of any page of the block.
 pub fn lookup(random: &mut Random, walk: Walk, bit: u64) -> Command {
     let within = match walk.in_l1 {
-        true => bit / 4 << 12,
+        true => (bit / 4) << 12,
         // of a TYPE 6 entry, the piece of the bit
-        false if bit < 32 => bit / 2 << 21 | random.below(1 << 21),
+        false if bit < 32 => (bit / 2) << 21 | random.below(1 << 21),
         false => random.below(1 << 25),
     };
     let privilege = random.pick(&Privilege::ALL[..2]);

@@ -10,6 +10,7 @@ mod forms;
 mod frames;
 mod generate;
 mod layout;
+mod met;
 mod outside;
 mod places;
 mod reading;

@@ -38,7 +38,8 @@ pub fn start(random: &mut Random, size: Size) -> (Table, Vec<Odd>) {
     let slots = distinct(random, 8, domains as usize);
     let roots: Vec<(usize, usize)> = slots.iter().map(|&slot| (slot, build.spare.pop().expect("a root"))).collect();
     for (nth, &(slot, root)) in roots.iter().enumerate() {
-        build.slots[slot] = 1 << 60 | (sdids + 7 * nth as u64) % 64 << 54 | (frame.first + root as u64);
+        let sdid = (sdids + 7 * nth as u64) % 64;
+        build.slots[slot] = 1 << 60 | sdid << 54 | (frame.first + root as u64);
         build.words[root * PAGE_WORDS..][..PAGE_WORDS].fill(0);
     }
     build.domains(random, &roots);

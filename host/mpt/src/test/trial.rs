@@ -1,15 +1,12 @@
 //! One sequence of commands on all programs at hand, kept so that it can be run again.
 
-use super::bounds::{AddressBound, FrameBound, RangeBound};
-use super::class::{Asked, Class};
-use super::layout::within_bounds;
-use super::rules::broken_alone;
+use super::met;
 use super::tally::Tally;
 use crate::answer::{Outcome, Reply};
 use crate::command::Command;
 use crate::programs::Program;
 use crate::sides::Sides;
-use mpt_monitor::{Answer, Privilege, Register, Table, PAGE_WORDS};
+use mpt_monitor::{Register, Table, PAGE_WORDS};
 use std::cell::RefCell;
 use std::panic::{catch_unwind, AssertUnwindSafe};
 use std::rc::Rc;
@@ -61,7 +58,7 @@ impl Trial {
     /// Begins with this table on all sides.
     pub fn start(&mut self, table: Table) {
         self.sides.set(&table);
-        FrameBound::of(table.frame(), table.words().len()).into_iter().for_each(|at| self.tally.note(Class::Frame(at)));
+        met::frame(&table).into_iter().for_each(|class| self.tally.note(class));
         self.did(Done::Start(table));
     }
 
@@ -85,41 +82,11 @@ impl Trial {
         }
     }
 
-    /// Counts the classes that an answer is in, by what was asked and how the table stands.
+    /// Counts the classes that an answer is in.
     fn note(&mut self, command: &Command, reply: &Reply) {
-        let (table, tally) = (self.sides.table().expect("it was obeyed"), &mut self.tally);
-        let count = table.words().len();
-        if let Command::Frame { .. } = command {
-            FrameBound::of(table.frame(), count).into_iter().for_each(|at| tally.note(Class::Frame(at)));
-        }
-        let (call, answer) = match (command.call(), reply) {
-            (Some(call), Reply::Call(answer)) => (call, *answer),
-            _ => return,
-        };
-        tally.calls += 1;
-        tally.note(Class::of_answer(call, answer));
-        match (command, answer) {
-            (Command::Lookup { privilege, register, address, .. }, Answer::Looked(_)) => {
-                if *privilege != Privilege::Machine && register.mode() == 1 {
-                    AddressBound::of(table.frame(), count, address.0)
-                        .into_iter()
-                        .for_each(|at| tally.note(Class::Address(at)));
-                }
-            }
-            (Command::Edit(edit), Answer::Edited(_)) => {
-                RangeBound::of(table.frame(), count, *edit).into_iter().for_each(|at| tally.note(Class::Range(at)));
-            }
-            (Command::Edit(edit), Answer::Refused(refusal)) if (5..=7).contains(&refusal.number()) => {
-                RangeBound::of(table.frame(), count, *edit).into_iter().for_each(|at| tally.note(Class::Range(at)));
-            }
-            (Command::Sound, Answer::Refused(_)) if within_bounds(table) => {
-                broken_alone(table).into_iter().for_each(|rule| tally.note(Class::Unsound(rule)));
-            }
-            (_, Answer::Opened(Register(register))) => {
-                let root = Register(register).root().0 - table.frame().first.0;
-                tally.note(Class::new_page(Asked::Open, root as usize));
-            }
-            _ => {}
+        self.tally.calls += u64::from(command.call().is_some());
+        for class in met::classes(self.table(), command, reply) {
+            self.tally.note(class);
         }
     }
 
