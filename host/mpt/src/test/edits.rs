@@ -20,6 +20,7 @@ pub fn edit(random: &mut Random, table: &Table, places: &Places) -> Edit {
     let range = match random.below(10) {
         0 | 1 => places.range(random),
         2..=5 => between_blocks(random, table, slot).unwrap_or_else(|| places.range(random)),
+        6 => places.inside(random),
         _ => start..start + length(random, places, start),
     };
     let mut edit = Edit {

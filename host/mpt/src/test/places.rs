@@ -72,6 +72,13 @@ impl Places {
         self.bound(random).wrapping_sub(random.below(2)).wrapping_add(further)
     }
 
+    /// All of some unit but its first and last page.
+    pub fn inside(&self, random: &mut Random) -> Range<u64> {
+        let unit = random.pick(&UNITS[1..]);
+        let start = self.page_address(random) / unit * unit;
+        start + PAGE..start + unit - PAGE
+    }
+
     /// A range from one bound to another or to just beside it: at least a page, in the address space.
     pub fn range(&self, random: &mut Random) -> Range<u64> {
         let near = |random: &mut Random| {
