@@ -178,6 +178,7 @@ pub fn main(mut options: Options) -> Result<u8, String> {
         for (name, (asked, paper), outcomes) in run(case, &programs) {
             let right = outcomes.iter().all(|outcome| is_paper(outcome, paper));
             wrong += usize::from(!right);
+            output::failed(u8::from(wrong > 0));
             print_row(name, asked, &shortened(&paper.reply()), outcomes.iter().map(text));
             if !right {
                 output::line("   ^ differs from document 01");
@@ -237,7 +238,7 @@ fn opened(program: Program, pages: usize) -> Sides {
     let (outcome, paper) = (ask(&mut sides, "open 0 5"), Paper::Call(Answer::Opened(OPENED)));
     if !is_paper(&outcome, paper) {
         let (name, given, wanted) = (program.name, text(&outcome), paper.reply());
-        eprintln!("mpt: {name}: `open 0 5` gave `{given}`; document 01 says `{wanted}`");
+        output::complain(format!("{name}: `open 0 5` gave `{given}`; document 01 says `{wanted}`"));
     }
     sides
 }

@@ -30,7 +30,7 @@ pub fn all() -> Vec<Program> {
 /// The proved program, or what stands in for it in this build; it says so once.
 pub fn proved_or(other: Program) -> Program {
     PROVED.unwrap_or_else(|| {
-        eprintln!("mpt: built without the proved library (feature `proved`): using `{}`", other.name);
+        crate::output::complain(format!("built without the proved library (feature `proved`): using `{}`", other.name));
         other
     })
 }

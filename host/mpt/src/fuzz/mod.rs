@@ -15,7 +15,7 @@ use guard::Guarded;
 use mpt_monitor::{Address, Answer, Call, Frame, Reading, Register, Sdid, Slot, View, ViewMut, Writing, MOST_STORES};
 use std::sync::atomic::{AtomicBool, Ordering};
 use std::thread::{self, available_parallelism};
-use std::time::{Duration, Instant};
+use std::time::Instant;
 
 /// How long it runs if no --seconds is given.
 const SECONDS: u64 = 10;
@@ -23,7 +23,7 @@ const SECONDS: u64 = 10;
 const MOST: usize = 6 * 512;
 
 pub fn main(mut options: Options) -> Result<u8, String> {
-    let seconds = options.number("--seconds")?.unwrap_or(SECONDS);
+    let end = options.end_after("--seconds", SECONDS)?;
     let seed = options.number("--seed")?.unwrap_or(1);
     let from = options.number("--round")?;
     options.end()?;
@@ -32,8 +32,6 @@ pub fn main(mut options: Options) -> Result<u8, String> {
     // a round that is to be seen again comes first and alone
     let threads = if from.is_some() { 1 } else { available_parallelism().map_or(1, |cores| cores.get() as u64) };
     let from = from.unwrap_or(0);
-    // no end, if it lies past what the clock can tell
-    let end = Instant::now().checked_add(Duration::from_secs(seconds));
     let stop = AtomicBool::new(false);
     let done: Vec<Done> = thread::scope(|scope| {
         let work = |nth| (from + nth..).step_by(threads as usize);
@@ -48,6 +46,7 @@ pub fn main(mut options: Options) -> Result<u8, String> {
     });
     let failed = done.iter().filter_map(|done| done.failed.as_ref()).min_by_key(|(round, _)| *round);
     if let Some((round, how)) = failed {
+        output::failed(DIFFERENT);
         output::line(format!("FAILED: mpt fuzz --seed {seed} --round {round}\n{how}"));
         return Ok(DIFFERENT);
     }

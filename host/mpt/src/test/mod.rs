@@ -57,6 +57,9 @@ pub fn main(mut options: Options) -> Result<u8, String> {
         Some(failed) => (DIFFERENT, report::failed(seed, &tally, &failed)),
         None => report::passed(&tally, count, start.elapsed().as_secs_f64()),
     };
+    if status != 0 {
+        output::failed(status);
+    }
     lines.iter().for_each(output::line);
     Ok(status)
 }

@@ -1,5 +1,6 @@
-//! A sheet of A4 in SVG.
+//! A sheet of A4 in SVG. Lengths are in tenths of a millimetre.
 
+use super::super::markup::escaped;
 use std::fmt::Write;
 
 #[derive(Clone, Copy, Debug)]
@@ -17,12 +18,30 @@ impl Box {
     }
 }
 
+/// How text is set.
+#[derive(Clone, Copy)]
+pub struct Type {
+    pub size: f64,
+    /// start, middle or end.
+    pub anchor: &'static str,
+    /// All letters of one width.
+    pub even: bool,
+    /// It must not be missed.
+    pub alarm: bool,
+}
+
+impl Type {
+    pub const fn of(size: f64) -> Type {
+        Type { size, anchor: "start", even: false, alarm: false }
+    }
+}
+
 pub struct Sheet {
     text: String,
 }
 
 const HEAD: &str = r##"<svg xmlns="http://www.w3.org/2000/svg" width="210mm" height="297mm" viewBox="0 0 2100 2970" font-family="DejaVu Sans, Liberation Sans, Arial, sans-serif">
-<defs><pattern id="mixed" width="6" height="6" patternUnits="userSpaceOnUse" patternTransform="rotate(45)"><rect width="6" height="6" fill="#ffffff"/><rect width="2.4" height="6" fill="#202020"/></pattern></defs>
+<defs><pattern id="mixed" width="8" height="8" patternUnits="userSpaceOnUse" patternTransform="rotate(45)"><rect width="2.8" height="8" fill="#ffffff" fill-opacity="0.72"/></pattern></defs>
 <rect width="2100" height="2970" fill="#ffffff"/>
 "##;
 
@@ -43,31 +62,29 @@ impl Sheet {
 
     /// What follows, to its end, shows a title where a pointer rests on it.
     pub fn begin_group(&mut self, title: &str) {
-        self.line(format_args!("<g><title>{title}</title>"));
+        self.line(format_args!("<g><title>{}</title>", escaped(title)));
     }
 
     pub fn end_group(&mut self) {
         self.line(format_args!("</g>"));
     }
 
-    pub fn text(&mut self, x: f64, y: f64, size: f64, anchor: &str, text: &str) {
+    pub fn text(&mut self, x: f64, y: f64, how: Type, text: &str) {
+        let Type { size, anchor, even, alarm } = how;
+        let family = if even { r#" font-family="DejaVu Sans Mono, Liberation Mono, monospace""# } else { "" };
+        let ink = if alarm { r##"font-weight="bold" fill="#b01010""## } else { r##"fill="#202020""## };
         self.line(format_args!(
-            r##"<text x="{x:.1}" y="{y:.1}" font-size="{size:.1}" text-anchor="{anchor}" fill="#202020">{text}</text>"##
-        ));
-    }
-
-    /// A line that must not be missed.
-    pub fn warning(&mut self, x: f64, y: f64, size: f64, text: &str) {
-        self.line(format_args!(
-            r##"<text x="{x:.1}" y="{y:.1}" font-size="{size:.1}" font-weight="bold" fill="#b01010">{text}</text>"##
+            r##"<text x="{x:.1}" y="{y:.1}" font-size="{size:.1}" text-anchor="{anchor}" {ink}{family}>{}</text>"##,
+            escaped(text)
         ));
     }
 
     /// A letter in the middle of a box.
     pub fn letter(&mut self, place: Box, text: &str) {
         if !text.is_empty() {
-            let size = (place.height * 0.62).min(place.width * 0.8).min(28.0);
-            self.text(place.x + place.width / 2.0, place.y + place.height / 2.0 + size * 0.36, size, "middle", text);
+            let size = (place.height * 0.8).min(place.width * 0.8).min(28.0);
+            let (x, y) = (place.x + place.width / 2.0, place.y + place.height / 2.0 + size * 0.36);
+            self.text(x, y, Type { anchor: "middle", ..Type::of(size) }, text);
         }
     }
 
@@ -76,18 +93,10 @@ impl Sheet {
         self.line(format_args!(r#"<rect x="{x:.2}" y="{y:.2}" width="{w:.2}" height="{h:.2}" fill="{fill}" stroke="{stroke}" stroke-width="{width}"/>"#));
     }
 
-    /// A box without an edge, so that neighbours meet.
-    pub fn fill(&mut self, place: Box, fill: &str) {
-        let Box { x, y, width: w, height: h } = place;
-        self.line(format_args!(
-            r#"<rect x="{x:.2}" y="{y:.2}" width="{w:.2}" height="{h:.2}" fill="{fill}" shape-rendering="crispEdges"/>"#
-        ));
-    }
-
     /// A dot in the upper right corner of a box.
     pub fn dot(&mut self, place: Box) {
         let radius = (place.width.min(place.height) * 0.16).min(7.0);
-        let (x, y) = (place.x + place.width - 2.0 * radius, place.y + 2.0 * radius);
+        let (x, y) = (place.x + place.width - 1.5 * radius, place.y + 1.5 * radius);
         self.line(format_args!(r##"<circle cx="{x:.2}" cy="{y:.2}" r="{radius:.2}" fill="#202020"/>"##));
     }
 }
