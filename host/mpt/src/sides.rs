@@ -30,6 +30,13 @@ impl Sides {
         self.sides[0].table.as_ref()
     }
 
+    /// Gives every side a copy of this table.
+    pub fn set(&mut self, table: &Table) {
+        for side in &mut self.sides {
+            side.table = Some(table.clone());
+        }
+    }
+
     /// Obeys on every side, and compares the answers and then every word and slot.
     pub fn obey(&mut self, command: &Command) -> Outcome {
         let first = self.sides[0].obey(command);
@@ -38,7 +45,8 @@ impl Sides {
             let names = self.sides.iter().map(|side| side.program.name);
             return Outcome::Differ(Difference::Answers(names.zip(std::iter::once(first).chain(others)).collect()));
         }
-        match (self.tables_differ(), first) {
+        // a write past the monitor is the same on all sides, so that only a call can make them differ
+        match (command.call().and_then(|_| self.tables_differ()), first) {
             (Some(difference), _) => Outcome::Differ(difference),
             (None, Ok(reply)) => Outcome::Answer(reply),
             (None, Err(error)) => Outcome::Error(error),

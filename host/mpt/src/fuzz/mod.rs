@@ -8,11 +8,13 @@ mod values;
 use crate::answer::Reply;
 use crate::options::Options;
 use crate::output;
-use crate::programs::{proved_or, Program, PLAIN, SECOND};
+use crate::programs::{proved_or, Program, PLAIN, PROVED, SECOND};
 use crate::random::Random;
 use crate::run::DIFFERENT;
 use guard::Guarded;
 use mpt_monitor::{Address, Answer, Call, Frame, Reading, Register, Sdid, Slot, View, ViewMut, Writing, MOST_STORES};
+use std::sync::atomic::{AtomicBool, Ordering};
+use std::thread::{self, available_parallelism};
 use std::time::Instant;
 
 /// How long it runs if no --seconds is given.
@@ -23,30 +25,66 @@ const MOST: usize = 6 * 512;
 pub fn main(mut options: Options) -> Result<u8, String> {
     let end = options.end_after("--seconds", SECONDS)?;
     let seed = options.number("--seed")?.unwrap_or(1);
-    let from = options.number("--round")?.unwrap_or(0);
+    let from = options.number("--round")?;
     options.end()?;
-    let mut calls = 0;
-    let mut fuzz = Fuzz::new(proved_or(PLAIN));
+    proved_or(PLAIN);
     guard::catch_crashes();
-    for round in from.. {
+    // a round that is to be seen again comes first and alone
+    let threads = if from.is_some() { 1 } else { available_parallelism().map_or(1, |cores| cores.get() as u64) };
+    let from = from.unwrap_or(0);
+    let stop = AtomicBool::new(false);
+    let done: Vec<Done> = thread::scope(|scope| {
+        let work = |nth| (from + nth..).step_by(threads as usize);
+        let spawn = |nth| {
+            scope.spawn({
+                let stop = &stop;
+                move || rounds(seed, work(nth), end, stop)
+            })
+        };
+        let all: Vec<_> = (0..threads).map(spawn).collect();
+        all.into_iter().map(|thread| thread.join().expect("a thread ends by itself")).collect()
+    });
+    let failed = done.iter().filter_map(|done| done.failed.as_ref()).min_by_key(|(round, _)| *round);
+    if let Some((round, how)) = failed {
+        output::failed(DIFFERENT);
+        output::line(format!("FAILED: mpt fuzz --seed {seed} --round {round}\n{how}"));
+        return Ok(DIFFERENT);
+    }
+    let sum = |of: fn(&Done) -> u64| done.iter().map(of).sum::<u64>();
+    let (rounds, calls) = (sum(|done| done.rounds), sum(|done| done.calls));
+    output::line(format!(
+        "seed {seed}: {rounds} tables, {calls} calls with any values: no crash, all answers, words and slots agree"
+    ));
+    Ok(0)
+}
+
+/// What a thread has done.
+#[derive(Default)]
+struct Done {
+    rounds: u64,
+    calls: u64,
+    failed: Option<(u64, String)>,
+}
+
+/// These rounds, until the time is over or a round fails.
+fn rounds(seed: u64, rounds: impl Iterator<Item = u64>, end: Option<Instant>, stop: &AtomicBool) -> Done {
+    let mut fuzz = Fuzz::new(PROVED.unwrap_or(PLAIN));
+    let mut done = Done::default();
+    for round in rounds {
         guard::last_words(&format!("CRASHED: mpt fuzz --seed {seed} --round {round}\n"));
         match fuzz.round(&mut Random::new(seed, round)) {
-            Ok(made) => calls += made,
+            Ok(made) => done.calls += made,
             Err(how) => {
-                output::failed(DIFFERENT);
-                output::line(format!("FAILED: mpt fuzz --seed {seed} --round {round}\n{how}"));
-                return Ok(DIFFERENT);
+                done.failed = Some((round, how));
+                stop.store(true, Ordering::Relaxed);
             }
         }
-        if end.map_or(false, |end| Instant::now() >= end) {
-            let rounds = round - from + 1;
-            output::line(format!(
-                "seed {seed}: {rounds} tables, {calls} calls with any values: no crash, all answers, words and slots agree"
-            ));
+        done.rounds += 1;
+        if stop.load(Ordering::Relaxed) || end.map_or(false, |end| Instant::now() >= end) {
             break;
         }
     }
-    Ok(0)
+    done
 }
 
 /// The memory that the subject works on.
