@@ -50,7 +50,8 @@ board: command
 	@board/user/test
 	@board/bare/test
 
-# the host side's own tests, a C program against the header alone, and random calls on all programs
+# the host side's own tests, a C program against the header alone, calls by the million, any values for half a minute, and small slips in
+# `plain` that the comparison must find
 host: command
 	@cd host && cargo test --quiet --features proved >$(CURDIR)/target/host-tests.log 2>&1 || { cat $(CURDIR)/target/host-tests.log; exit 1; }
 	@awk '/^test result/ { n += $$4 } END { print "host: " n " tests pass" }' target/host-tests.log
@@ -60,7 +61,11 @@ host: command
 	@host/c/run.sh $(library)
 	@$(mpt) cases >/dev/null
 	@$(mpt) run --both examples/cradles.mpt >/dev/null
-	@$(mpt) test --count 200000
+	@$(mpt) test --count 2000000 >target/test.log || { cat target/test.log; exit 1; }
+	@sed -n '1,2p;$$p' target/test.log
+	@$(mpt) fuzz --seconds 30
+	@tests/mutants/run >target/mutants.log || { cat target/mutants.log; exit 1; }
+	@tail -n 1 target/mutants.log
 
 # optional: calls with any values whatever, for SECONDS seconds
 SECONDS := 60
