@@ -21,6 +21,9 @@ run: command
 # rt ci waits for the last check of a batch, so a batch is of twice as many as there are cores
 test:
 	@tools/kit
+	@tools/need cc:gcc cargo
+	@tools/derive --check
+	@tests/order/run
 	@said=$$(mktemp); RT_JOBS=$$((2 * $$(nproc))) rt ci 2>&1 | tee "$$said" || { rm -f "$$said"; exit 1; }; mv "$$said" target/verdict
 	@tests/versions/run >target/versions && tail -n 1 target/versions
 	@tests/definitions/run
@@ -34,25 +37,35 @@ command:
 	@board/build
 	@cd host && cargo build --release --quiet --features proved
 
-# a trace of the stores that the library makes on x86-64; the RISC-V one's assembly, its answers, and its stores on an emulated board.
+# a trace of the stores that the library makes on x86-64; the check of the module on wrong modules; the RISC-V library's assembly, its answers,
+# and its stores on an emulated board.
 # Libraries with wrong or unmarked stores must be refused
 board: command
 	@tools/need --lean valgrind qemu-riscv64:qemu-user qemu-system-riscv64:qemu-system-misc
 	@board/trace/test $(library)
+	@board/module/test
 	@if board/trace/test $(unmarked) >target/board/unmarked.log 2>&1; then echo "trace: unmarked stores were not refused" >&2; exit 1; fi
 	@echo "trace: unmarked stores are refused: $$(tail -n 1 target/board/unmarked.log | tr -s '[:space:]' ' ')"
 	@board/assembly/test
 	@board/user/test
 	@board/bare/test
 
-# the host side's own tests, a C program against the header alone, and random calls on all programs
+# the host side's own tests, a C program against the header alone, calls by the million, any values for half a minute, and small slips in
+# `plain` that the comparison must find
 host: command
 	@cd host && cargo test --quiet --features proved >$(CURDIR)/target/host-tests.log 2>&1 || { cat $(CURDIR)/target/host-tests.log; exit 1; }
 	@awk '/^test result/ { n += $$4 } END { print "host: " n " tests pass" }' target/host-tests.log
+	@cd host && cargo check --quiet -p mpt-monitor --no-default-features
+	@tools/need --lean chromium >/dev/null 2>&1 || true
+	@host/mpt/tests/html.sh $(mpt)
 	@host/c/run.sh $(library)
 	@$(mpt) cases >/dev/null
 	@$(mpt) run --both examples/cradles.mpt >/dev/null
-	@$(mpt) test --count 200000
+	@$(mpt) test --count 2000000 >target/test.log || { cat target/test.log; exit 1; }
+	@sed -n '1,2p;$$p' target/test.log
+	@$(mpt) fuzz --seconds 30
+	@tests/mutants/run >target/mutants.log || { cat target/mutants.log; exit 1; }
+	@tail -n 1 target/mutants.log
 
 # optional: calls with any values whatever, for SECONDS seconds
 SECONDS := 60

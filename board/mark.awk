@@ -1,103 +1,175 @@
 # mark.awk: reads the text of the LLVM module that the kit hands to its compiler, before any optimisation. It
-#   - checks that the function named in `table` stores through a reference by exactly one aligned 8-byte store, that the functions named
-#     in `marks` store single bytes alone, and that every other store of the module goes to a local of its own function or to the place
-#     of its own result;
-#   - writes the module with the table's store marked as `how` says; for riscv64, with every function inside the exported ones, so that
-#     each local lies in the frame of an exported function and assembly/fences.awk can tell the stack's stores by their address.
-# Usage: awk -v table=table::store::store_word [-v marks='f g'] [-v how='..'] [-v target=riscv64] -f mark.awk module.ll >marked.ll
-# A pointer is a reference unless the function's text shows that it leads to a local (an alloca). The search takes no account of order,
-# and what it does not know it refuses.
+#   - checks that in the whole module one store alone can reach the memory that C lends: an aligned 8-byte store in the function named in
+#     `table`. Every other store, copy or fill goes to a local of some function, wherever its pointer came from;
+#   - writes the module with that store marked as `how` says; for riscv64, with every function inside the exported ones, so that each
+#     local lies in the frame of an exported function and assembly/fences.awk can tell the stack's stores by their address.
+# Usage: awk -v table=table::store::store_word [-v how='..'] [-v target=riscv64] -f mark.awk module.ll >marked.ll
+#
+# Where a pointer leads is worked out by a points-to analysis of the whole module (Andersen's): each value and the contents of each local
+# have a set of what they may lead to: locals (allocas), `lent` (what C hands in) and `unknown` (a number or a constant taken for a
+# pointer). Pointers are followed through locals, arguments and results. It takes no account of order, nor of which call an argument came
+# from, and a local is one thing, so that it can only err by refusing. An instruction that it doesn't know it refuses. That no index leaves
+# its local is proved of the source.
 BEGIN {
     if (how == "") how = "store atomic volatile i64 V, ptr P release, align 8"
-    names(table, is_table); names(marks, is_marks)
-    quiet = "^(alloca|load|getelementptr|icmp|fcmp|zext|sext|trunc|br|ret|switch|unreachable|add|sub|mul|udiv|urem|sdiv|srem|and|or|xor|shl|lshr|ashr)$"
+    quiet = "^(icmp|zext|sext|trunc|br|switch|unreachable|add|sub|mul|udiv|urem|sdiv|srem|and|or|xor|shl|lshr|ashr)$"
+    point("C", "lent", ""); point("unknown", "unknown", ""); flow("unknown", "*lent"); flow("unknown", "*unknown")
 }
-function names(text, set,   a, m, k) { m = split(text, a, " "); for (k = 1; k <= m; k++) set[a[k]] = 1 }
-function fail(message) { print "mark: " name ": " message > "/dev/stderr"; bad = 1 }
-# The word after `key`.
-function after(text, key,   i, t) { i = index(text, key); if (!i) return ""; t = substr(text, i + length(key)); sub(/[,) ].*/, "", t); return t }
-# The alloca or the load that a pointer comes from; `""` for an argument, a global or a call's result.
-function origin(v) { while (v in base) v = base[v]; return ((v in is_alloca) || (v in is_load)) ? v : "" }
-function reference(v,   o) { o = origin(v); return o == "" || (o in is_load) && (o in is_reference) }
-# Whether the memory at pointer v may hold a reference.
-function may_hold(v,   o) { o = origin(v); return o == "" || ((o in is_alloca) ? (o in holds) : any) || all }
-function put_reference(v,   o) {
-    o = origin(v)
-    if (o == "") return
-    if (o in is_alloca) { if (!(o in holds)) { holds[o] = 1; any = 1; changed = 1 } }
-    else if (deep && !(o in is_reference) && !all) { all = 1; any = 1; changed = 1 }
+function fail(f, message) { print "mark: " (f ? name[f] : "module") ": " message > "/dev/stderr"; bad = 1 }
+
+# The analysis. A place is a value of a function (`7 %r3`), the contents of a local (`*7 %r3`), `C` or `unknown`.
+# place v may lead to o; `from` is the place that it was seen in before
+function point(v, o, from) {
+    if ((v, o) in leads) return
+    leads[v, o] = 1; target_of[v, ++targets[v]] = o
+    came[v, o] = from
+    work[++pending] = v SUBSEP o
+}
+# what a leads to, b leads to
+function flow(a, b,   k) {
+    if ((a, b) in flows) return
+    flows[a, b] = 1; next_of[a, ++nexts[a]] = b
+    for (k = 1; k <= targets[a]; k++) point(b, target_of[a, k], a)
+}
+function load(p, v) { load_of[p, ++loads[p]] = v }
+function store(p, v) { store_of[p, ++stores[p]] = v }
+function solve(   done, part, v, o, k) {
+    for (done = 1; done <= pending; done++) {
+        split(work[done], part, SUBSEP); v = part[1]; o = part[2]; delete work[done]
+        for (k = 1; k <= nexts[v]; k++) point(next_of[v, k], o, v)
+        for (k = 1; k <= loads[v]; k++) flow("*" o, load_of[v, k])
+        for (k = 1; k <= stores[v]; k++) flow(store_of[v, k], "*" o)
+    }
+}
+function leads_out(v) { return ((v, "lent") in leads) || ((v, "unknown") in leads) }
+# The functions by which lent memory, or what is not known, came to a place.
+function way(v,   o, f, last, text) {
+    o = ((v, "lent") in leads) ? "lent" : "unknown"
+    for (; v ~ /[0-9]/; v = came[v, o]) {
+        f = v; sub(/^\*/, "", f); f += 0
+        if (f != last) { text = name[f] (text == "" ? "" : " > " text); last = f }
+    }
+    return (o == "lent" ? "lent memory" : "what is not known") ", by way of " text
 }
 
-function analyse(   k, t, rest, y, stores, v, p) {
-    split("", base); split("", is_alloca); split("", is_load); split("", is_reference); split("", holds)
-    any = 0; all = 0
-    for (k = 1; k <= n; k++) {
-        t = line[k]; sub(/^ +/, "", t); result[k] = ""
-        if (match(t, /^%[^ ]+ = /)) { result[k] = substr(t, 1, RLENGTH - 3); t = substr(t, RLENGTH + 1) }
-        sub(/^tail call/, "call", t)
-        text[k] = t; op[k] = t; sub(/[ ,].*/, "", op[k])
-        if (op[k] == "alloca") is_alloca[result[k]] = 1
-        else if (op[k] == "getelementptr") base[result[k]] = after(t, ", ptr ")
-        else if (t ~ /^load ptr, /) is_load[result[k]] = 1
+# The reading of a function's lines.
+# the word after `key`
+function after(text, key,   i) { i = index(text, key); text = substr(text, i + length(key)); sub(/[,) ].*/, "", text); return text }
+function place(operand) { sub(/.* /, "", operand); return operand ~ /^%/ ? at " " operand : "unknown" }
+# the arguments or parameters in a text that ends with `)` and what follows it; -1 if one is not known
+function arguments(text, list,   m, k) {
+    sub(/^[^(]*\(/, "", text); sub(/\)[^)]*$/, "", text)
+    m = split(text, list, ", ")
+    for (k = 1; k <= m; k++)
+        if (list[k] !~ /^(ptr|i[0-9]+) ((noundef|zeroext|signext|align [0-9]+) )*[^ ]+$/) return -1
+    return m
+}
+function called(text) {
+    sub(/^[^@]*@/, "", text)
+    if (text ~ /^"/) { text = substr(text, 2); sub(/".*/, "", text) } else sub(/\(.*/, "", text)
+    return text
+}
+# without its name, which may have brackets
+function unnamed(text) { sub(/@("[^"]*"|[^(]*)/, "", text); return text }
+
+function write_to(p) { writes++; write_at[writes] = n; write_in[writes] = at; write_place[writes] = p }
+function read_intrinsic(t, callee,   list, m) {
+    m = arguments(t, list)
+    if (callee ~ /^llvm\.mem(move|cpy)\./ && m == 4) {
+        load(place(list[2]), at " copy " n); store(place(list[1]), at " copy " n)
+        write_to(place(list[1]))
+    } else if (callee ~ /^llvm\.memset\./ && m == 4) { store(place(list[1]), "unknown"); write_to(place(list[1])) }
+    else if (callee != "llvm.trap" && callee !~ /^llvm\.(ctpop|ctlz|cttz|bswap|fshl|fshr)\./) fail(at, "a call that is not known: " t)
+}
+# A call: its arguments go to the parameters once all functions are read.
+function read_call(t, result,   callee) {
+    if (t !~ /^call ((noundef|zeroext|signext) )*(void|ptr|i[0-9]+) @("[^"]*"|[A-Za-z0-9_.]+)\(.*\)( #[0-9]+)?$/) {
+        fail(at, "a call that is not known: " t)
+        return
     }
-    settled = 0
-    do {
-        # a pass over pointers in locals of pointers (deep) waits until the shallow passes have settled
-        deep = settled; changed = 0
-        for (k = 1; k <= n; k++) {
-            t = text[k]
-            if (t ~ /^load ptr, /) { if (!(result[k] in is_reference) && may_hold(after(t, ", ptr "))) { is_reference[result[k]] = 1; changed = 1 } }
-            else if (t ~ /^store ptr /) { if (reference(after(t, "store ptr "))) put_reference(after(t, ", ptr ")) }
-            else if (t ~ /^call .*@llvm\.mem(move|cpy)\./) { if (may_hold(after(t, ", ptr "))) put_reference(after(t, "(ptr ")) }
-            else if (op[k] == "call" && t !~ /@llvm\.memset\./) {
-                # a called function may leave a reference in any local that it is lent
-                rest = t
-                while (match(rest, /ptr (noundef )?%[A-Za-z0-9._]+/)) {
-                    y = substr(rest, RSTART, RLENGTH); sub(/.* /, "", y); rest = substr(rest, RSTART + RLENGTH)
-                    put_reference(y)
-                }
-            }
-        }
-        settled = !changed
-    } while (changed || !deep)
-    stores = 0
-    for (k = 1; k <= n; k++) {
-        t = text[k]
-        if (t == "" || t ~ /^;/ || t ~ /^[A-Za-z0-9._]+:/ || t ~ /^i[0-9]+ [0-9-]+, label / || t == "]") continue
-        if (op[k] == "store") {
-            p = after(t, ", ptr ")
-            if (!reference(p)) continue
-            stores++
-            if (name in is_table) {
-                if (t !~ /^store i64 [^ ]+, ptr %[^ ]+, align 8$/) { fail("not a plain aligned 8-byte store: " t); continue }
-                v = after(t, "store i64 "); t = how; sub(/V/, v, t); sub(/P/, p, t); line[k] = "  " t; marked++
-            } else if (!((name in is_marks) && t ~ /^store i8 /)) fail("stores through a reference: " t)
-        } else if (op[k] == "call") {
-            if (t ~ /@llvm\.mem(move|cpy|set)\./) {
-                if (!reference(after(t, "(ptr "))) continue
-                if (name in is_table || !(after(t, "(ptr ") == "%a0" && text[k + 1] == "ret void")) fail("copies through a reference: " t)
-            } else if (t ~ /@llvm\./ && t !~ /@llvm\.(ctpop|ctlz|cttz|bswap|fshl|fshr)\./ && t !~ /@llvm\.trap\(\)/) fail("a call that is not known: " t)
-        } else if (op[k] !~ quiet) fail("an instruction that is not known: " t)
-    }
-    if (name in is_table) { found[name] = 1; if (stores != 1) fail(stores " stores through references, and not one") }
+    callee = called(t)
+    if (callee ~ /^llvm\./) { read_intrinsic(unnamed(t), callee); return }
+    calls++; call_in[calls] = at; call_text[calls] = t; call_result[calls] = result
+}
+function read_instruction(t, result,   op) {
+    op = t; sub(/[ ,].*/, "", op)
+    if (op == "alloca") point(at " " result, at " " result, "")
+    else if (t ~ /^load ptr, ptr [^ ,]+, align [0-9]+(, ![a-z]+ ![0-9]+)*$/) load(place(after(t, ", ptr ")), at " " result)
+    else if (t ~ /^load i[0-9]+, ptr [^ ,]+, align [0-9]+(, ![a-z]+ ![0-9]+)*$/) return
+    else if (t ~ /^getelementptr .*, ptr [^ ,]+, /) flow(place(after(t, ", ptr ")), at " " result)
+    else if (t ~ /^store (ptr|i[0-9]+) [^ ,]+, ptr [^ ,]+, align [0-9]+$/) {
+        # a number may be read again as a pointer, and then leads anywhere
+        store(place(after(t, ", ptr ")), t ~ /^store ptr / ? place(after(t, "store ptr ")) : "unknown")
+        write_to(place(after(t, ", ptr ")))
+    } else if (op == "call") read_call(t, result)
+    else if (t ~ /^ret ptr /) flow(place(t), at " returned")
+    else if (t !~ /^ret (void$|i[0-9]+ )/ && op !~ quiet) fail(at, "an instruction that is not known: " t)
+}
+function read_line(t,   result) {
+    if (t == "" || t ~ /^[^ ]+:( |$)/ || t ~ /^ *(;|i[0-9]+ -?[0-9]+, label |\]$)/) return
+    sub(/^ +/, "", t)
+    if (match(t, /^%[^ ]+ = /)) { result = substr(t, 1, RLENGTH - 3); t = substr(t, RLENGTH + 1) }
+    sub(/^tail call/, "call", t)
+    read_instruction(t, result)
+}
+function read_define(text,   list, m, k) {
+    at = ++functions; name[at] = called(text); number_of[name[at]] = at
+    exported[at] = text !~ /^define (internal|private) /
+    if (text !~ /^define ((internal|private|noundef|zeroext|signext) )*(void|ptr|i[0-9]+) @/) fail(at, "a function that is not known: " text)
+    m = arguments(unnamed(text), list)
+    if (m < 0) fail(at, "a parameter that is not known: " text)
+    for (k = 1; k <= m; k++) { is_pointer[at, k] = list[k] ~ /^ptr /; parameter[at, k] = place(list[k]) }
+    parameters[at] = m
 }
 
-target == "riscv64" && /^target datalayout/ { print "target datalayout = \"e-m:e-p:64:64-i64:64-i128:128-n32:64-S128\""; next }
-target == "riscv64" && /^target triple/ { print "target triple = \"riscv64-unknown-unknown-elf\""; next }
-target == "riscv64" && /^attributes / { gsub(/ "(probe-stack|target-cpu)"="[^"]*"/, "") }
-/^define / {
-    name = $0; sub(/^[^@]*@/, "", name)
-    if (name ~ /^"/) { name = substr(name, 2); sub(/".*/, "", name) } else sub(/\(.*/, "", name)
-    # a pointer from C is aligned to 8 bytes, as mpt.h asks: RISC-V would read a slot byte by byte otherwise
-    if (target == "riscv64") { if (/^define internal /) sub(/( #[0-9]+)? \{$/, " alwaysinline&"); else gsub(/ptr noundef/, "ptr noundef align 8") }
-    inside = 1; n = 0; print; next
+# Every argument goes to its parameter. C calls the exported functions; a function that nobody calls is taken for one of them.
+function join_calls(   c, f, list, m, k) {
+    for (c = 1; c <= calls; c++) {
+        at = call_in[c]; f = number_of[called(call_text[c])]; m = arguments(unnamed(call_text[c]), list)
+        if (!f || m != parameters[f]) { fail(at, "a call that is not known: " call_text[c]); continue }
+        is_called[f] = 1
+        for (k = 1; k <= m; k++) if (is_pointer[f, k]) flow(list[k] ~ /^ptr / ? place(list[k]) : "unknown", parameter[f, k])
+        if (call_result[c] != "") flow(f " returned", at " " call_result[c])
+    }
+    for (f = 1; f <= functions; f++)
+        if (exported[f] || !is_called[f]) for (k = 1; k <= parameters[f]; k++) if (is_pointer[f, k]) flow("C", parameter[f, k])
 }
-inside && /^}/ { inside = 0; analyse(); for (k = 1; k <= n; k++) print line[k]; print; next }
-inside { line[++n] = $0; next }
-{ print }
+function mark(k,   t, v, p) {
+    t = line[write_at[k]]; sub(/^ +/, "", t)
+    if (t !~ /^store i64 [^ ]+, ptr %[^ ]+, align 8$/) { fail(write_in[k], "not a plain aligned 8-byte store: " t); return }
+    v = after(t, "store i64 "); p = after(t, ", ptr "); t = how; sub(/V/, v, t); sub(/P/, p, t)
+    line[write_at[k]] = "  " t; marked++
+}
+function judge(   k, t) {
+    for (k = 1; k <= writes; k++) {
+        t = line[write_at[k]]; sub(/^ +/, "", t)
+        if (!targets[write_place[k]]) fail(write_in[k], "writes through a pointer that comes from nowhere: " t)
+        else if (!leads_out(write_place[k])) continue
+        else if (name[write_in[k]] != table) fail(write_in[k], "may write outside its locals: " t ": to " way(write_place[k]))
+        else { into++; mark(k) }
+    }
+    if (!(table in number_of)) fail(0, "no function " table)
+    else if (into != 1) fail(number_of[table], into + 0 " stores to lent memory, and not one")
+}
+# The module for RISC-V: each function inside the exported ones. A pointer from C is aligned to 8 bytes, as mpt.h asks: RISC-V would read
+# a slot byte by byte otherwise.
+function for_riscv64(text) {
+    if (text ~ /^target datalayout/) return "target datalayout = \"e-m:e-p:64:64-i64:64-i128:128-n32:64-S128\""
+    if (text ~ /^target triple/) return "target triple = \"riscv64-unknown-unknown-elf\""
+    if (text ~ /^attributes /) gsub(/ "(probe-stack|target-cpu)"="[^"]*"/, "", text)
+    else if (text ~ /^define internal /) sub(/( #[0-9]+)? \{$/, " alwaysinline&", text)
+    else if (text ~ /^define /) gsub(/ptr noundef/, "ptr noundef align 8", text)
+    return text
+}
+
+{ line[++n] = $0 }
+/^define / { inside = 1; read_define($0); next }
+/^}/ { inside = 0; next }
+inside { read_line($0); next }
+!/^($|;|source_filename |target |declare |attributes |!|@[^=]* = ([a-z_]+ )*constant )/ { fail(0, "a line that is not known: " $0) }
 END {
-    name = "module"
-    for (f in is_table) if (!(f in found)) fail("no function " f)
+    join_calls(); solve(); judge()
     if (bad) exit 1
-    print "mark: " marked + 0 " store to the table, marked; no other word is stored through a reference" > "/dev/stderr"
+    for (k = 1; k <= n; k++) print target == "riscv64" && line[k] !~ /^ / ? for_riscv64(line[k]) : line[k]
+    print "mark: of " writes " stores, copies and fills " marked " can reach lent memory: the one in " table ", which is marked" > "/dev/stderr"
 }

@@ -48,8 +48,32 @@ call_user:
     .endr
     la    ra, user_exit
     mret
+    .globl user_exit
 user_exit:
     ecall
+
+    .globl just_return
+just_return:
+    ret
+
+# The fences of this board, which has none: a trap that tells kind, address and SDID.
+    .globl fence_domain
+fence_domain:
+    mv    a2, a0
+    li    a0, 1
+    j     tell
+    .globl fence_address
+fence_address:
+    mv    a2, a1
+    mv    a1, a0
+    li    a0, 2
+    j     tell
+    .globl fence_all
+fence_all:
+    li    a0, 3
+tell:
+    .4byte 0x00100073          # ebreak
+    ret
 
 # Every trap. A call from user mode is the end of call_user; anything else goes to trap(registers).
     .align 2

@@ -1,38 +1,55 @@
-/* The board is reset when exactly k stores of a case are made, for every k from none to all. The next start finds those and no others,
- * makes the same edit again, each store trapped, and ends as the uncut edit did. */
+/* The board is reset when exactly k stores of a call are made, for every k from none to all. The next start finds those and no others,
+ * makes the same call again, each store trapped, and ends as the uncut call did. */
 #include "test.h"
+
+static struct store list[MOST_STORES];
+
+/* Nothing is owed after an open that was cut: another call is made as if the open had never been, and then undone here. */
+static void make_instead(void)
+{
+    copy_words(KEPT->found, TABLE);
+    tried = &scenario->instead;
+    size_t count = list_of(&table, list);
+    if (count < PAGE_ENTRIES || list[0].at != KEPT->whole.list[0].at)
+        fail("does not take the page of the open: word ", list[0].at, ", stores ", count);
+    make_trapped(list, count, NEVER, NOTHING);
+    same_words(KEPT->found, list, count);
+    copy_words(TABLE, KEPT->found);
+    tried = &scenario->tried;
+}
+
+/* What the last start left: exactly the first stores, and the slots as they were. Then the call again. */
+static void after_cut(void)
+{
+    struct kept *kept = KEPT;
+    kept->resets++;
+    kept->pending = 0;
+    same_words(kept->whole.before, kept->whole.list, kept->step);
+    same_slots();
+    if (scenario->instead.call)
+        make_instead();
+    check_end(make_trapped(list, list_of(&table, list), NEVER, GOVERNED));
+    kept->step++;
+}
 
 void every_cut(void)
 {
-    static struct store list[MOST_STORES];
-    static char name[] = "case C, cut";
     struct kept *kept = KEPT;
-    watched.call = name;
-    if (kept->pending) {
-        const struct whole *whole = &kept->whole[kept->nth];
-        name[5] = case_names[kept->nth];
-        kept->resets++;
-        kept->pending = 0;
-        watched.count = 0;
-        same_words(whole->before, whole->list, kept->step);
-        uint64_t count = second_edit(&bench, &case_edits[kept->nth], list);
-        trapped_edit(kept->nth, list, count, NEVER, 0);
-        check_end(kept->nth);
-        kept->step++;
-        if (kept->step > whole->count) {
-            kept->step = 0;
-            kept->nth++;
-        }
-    }
-    if (kept->nth < CASES) {
-        const struct whole *whole = &kept->whole[kept->nth];
-        name[5] = case_names[kept->nth];
-        copy_words(TABLE, whole->before);
+    phase = ", cut";
+    if (kept->pending)
+        after_cut();
+    if (kept->step <= kept->whole.count) {
+        copy_words(TABLE, kept->whole.before);
         kept->pending = 1;
-        trapped_edit(kept->nth, whole->list, whole->count, kept->step, 0);
-        fail("the board was not reset: ", kept->step, ", stores ", whole->count);
+        /* the first call makes the stores of the uncut one, after each of which the reading was looked at */
+        make_trapped(kept->whole.list, kept->whole.count, kept->step, NOTHING);
+        fail("the board was not reset: ", kept->step, ", stores ", kept->whole.count);
     }
-    say("every cut: ");
+    say("  ");
+    say(scenario->name);
+    say(": stores ");
+    say_number(kept->whole.count);
+    say(", cuts ");
     say_number(kept->resets);
-    say(" resets, after each number of stores of C, F, G and H; each start found exactly those stores, and finished the edit\n");
+    put('\n');
 }

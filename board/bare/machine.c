@@ -3,7 +3,7 @@
 #include "say.h"
 
 #define UART (*(volatile uint8_t *)0x10000000)
-#define TEST (*(volatile uint32_t *)0x100000)
+#define FINISHER (*(volatile uint32_t *)0x100000)
 #define MTIMECMP (*(volatile uint64_t *)0x2004000)
 #define MTIME (*(volatile uint64_t *)0x200bff8)
 
@@ -14,7 +14,7 @@ void put(char c)
 
 static void end(uint32_t how)
 {
-    TEST = how;
+    FINISHER = how;
     for (;;)
         ;
 }

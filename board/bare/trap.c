@@ -1,5 +1,5 @@
-/* Every store of a call that is watched comes here: is it the next of document 01's list, and does every address that it governs read as
- * before or as after the whole edit? Then it is made. */
+/* Every store that user mode may not make comes here. Of a call that is watched: is it the next of document 01's list, and does every
+ * address that it governs read as before or as after the whole call? Then it is made. */
 #include "test.h"
 
 /* 0 leaves that question out, to see that the other, and what the next start asks, is asked in earnest. */
@@ -11,11 +11,17 @@
 #endif
 
 struct watched watched;
+const char *phase = "";
+void (*on_store)(uint64_t address, uint64_t word);
+void (*on_fence)(uint64_t kind, uint64_t address, uint64_t sdid);
+int leave_user;
 
 void fail(const char *fact, uint64_t number, const char *more, uint64_t other)
 {
     say("FAIL ");
-    say(watched.call);
+    if (scenario)
+        say(scenario->name);
+    say(phase);
     if (KEPT->resets) {
         say(", reset ");
         say_number(KEPT->resets);
@@ -52,7 +58,7 @@ static uint32_t stored_register(uint64_t at, uint64_t *length)
 static void wrong_place(uint64_t address)
 {
     uint64_t at = (address - (uint64_t)TABLE) / 8, due = watched.list[watched.made].at;
-    if (at >= WORDS)
+    if (at >= table.pages * PAGE_ENTRIES)
         fail("a store outside the table and the stack, to ", address, ", due is word ", due);
     for (uint64_t k = 0; k < watched.made; k++)
         if (watched.list[k].at == at)
@@ -67,7 +73,7 @@ static void wrong_place(uint64_t address)
     fail("a word that is not in the list: ", at, ", due is word ", due);
 }
 
-static void check_store(uint64_t address, uint64_t word)
+void check_store(uint64_t address, uint64_t word)
 {
     if (watched.made == watched.count)
         fail("more stores than the list has: to ", address, " the word ", word);
@@ -79,52 +85,74 @@ static void check_store(uint64_t address, uint64_t word)
 }
 
 /* Pages of one block. */
-static void check_reading(uint64_t block, uint64_t from, uint64_t pages)
+static void check_pages(uint64_t from, uint64_t count)
 {
-    static _Alignas(8) uint8_t reads[BLOCK_PAGES];
-    const uint8_t *before = watched.before + block * BLOCK_PAGES, *after = watched.after + block * BLOCK_PAGES;
-    second_walk(&watched.table, watched.mmpt, block, reads);
-    if (same(reads, before, BLOCK_PAGES) || same(reads, after, BLOCK_PAGES))
-        return;
-    for (uint64_t page = from; page < from + pages; page++)
-        if (reads[page] != before[page] && reads[page] != after[page])
-            fail("reads neither as before nor as after: address ", (block * BLOCK_PAGES + page) * PAGE, ", permission ", reads[page]);
+    static _Alignas(8) uint8_t now[BLOCK_PAGES];
+    const uint8_t *before = KEPT->whole.reads_before.pages + from, *after = KEPT->whole.reads_after.pages + from;
+    second_walk(&table, table.slots[watched.edited], from, count, now);
+    for (uint64_t page = 0; page < count; page++)
+        if (now[page] != before[page] && now[page] != after[page])
+            fail("reads neither as before nor as after: address ", (from + page) * PAGE, ", permission ", now[page]);
 }
 
-/* A word of the root governs a block, any other 16 pages; the thorough reading takes the GiB, or the block, around it. */
-static void check_governed(uint64_t at, uint64_t block)
+static void check_block(uint64_t block)
 {
-    int in_root = FIRST + at / PAGE_ENTRIES == (watched.mmpt & 0xfffff);
-    if (!in_root && !watched.thorough) {
-        check_reading(block, at % PAGE_ENTRIES * 16, 16);
-        return;
+    const struct whole *whole = &KEPT->whole;
+    uint64_t mmpt = table.slots[watched.edited];
+    if (!block_reads(mmpt, &whole->reads_before, block) && !block_reads(mmpt, &whole->reads_after, block))
+        check_pages(block * BLOCK_PAGES, BLOCK_PAGES);
+}
+
+/* Both domains, all of them. */
+static void check_everything(void)
+{
+    for (uint64_t block = 0; block < UINT64_C(1) << (table.paw - 25); block++) {
+        check_block(block);
+        if (!block_reads(table.slots[OTHER], &KEPT->whole.reads_other, block))
+            fail("another domain reads otherwise: the block from ", block * BLOCK_PAGES * PAGE, ", register ", table.slots[OTHER]);
     }
-    int whole_gib = in_root && watched.thorough;
-    uint64_t first = whole_gib ? block / GIB_BLOCKS * GIB_BLOCKS : block;
-    for (uint64_t k = first; k < first + (whole_gib ? GIB_BLOCKS : 1); k++)
-        check_reading(k, 0, BLOCK_PAGES);
+}
+
+/* A word of the root governs a block, any other 16 pages. */
+void check_governed(uint64_t at)
+{
+    uint64_t block = watched.list[watched.made].block;
+    if (FIRST + at / PAGE_ENTRIES == PPN(table.slots[watched.edited]))
+        check_block(block);
+    else
+        check_pages(block * BLOCK_PAGES + at % PAGE_ENTRIES * 16, 16);
+}
+
+void watched_store(uint64_t address, uint64_t word)
+{
+    if (ORDER)
+        check_store(address, word);
+    if (watched.reset_at == 0)
+        reset();
+    *(volatile uint64_t *)address = word;
+    if (READING && watched.reading == THOROUGH)
+        check_everything();
+    else if (READING && watched.reading == GOVERNED)
+        check_governed((address - (uint64_t)TABLE) / 8);
+    watched.made++;
+    if (watched.made == watched.reset_at)
+        reset();
 }
 
 void trap(const uint64_t *registers)
 {
-    uint64_t cause, at, value, length;
+    uint64_t cause, at, value, length = 4;
     __asm__ volatile("csrr %0, mcause" : "=r"(cause));
     __asm__ volatile("csrr %0, mepc" : "=r"(at));
     __asm__ volatile("csrr %0, mtval" : "=r"(value));
     if (cause == (UINT64_C(1) << 63 | 7))
         reset(); /* the watchdog */
-    if (cause != 7)
+    if (cause == 7)
+        on_store(value, registers[stored_register(at, &length)]);
+    else if (cause == 3 && on_fence)
+        on_fence(registers[10], registers[11], registers[12]);
+    else
         fail("a trap that nothing asked for: cause ", cause, " at ", at);
-    uint64_t word = registers[stored_register(at, &length)];
-    if (ORDER)
-        check_store(value, word);
-    if (watched.reset_at == 0)
-        reset();
-    *(volatile uint64_t *)value = word;
-    if (READING && watched.before)
-        check_governed((value - (uint64_t)TABLE) / 8, watched.list[watched.made].block);
-    watched.made++;
-    if (watched.made == watched.reset_at)
-        reset();
-    __asm__ volatile("csrw mepc, %0" ::"r"(at + length));
+    __asm__ volatile("csrw mepc, %0" ::"r"(leave_user ? (uint64_t)user_exit : at + length));
+    leave_user = 0;
 }

@@ -1,18 +1,23 @@
-/* A stand-in for mpt_edit that makes the stores of document 01's list, as the second program gives it, and answers as it should; wrong in
- * one way alone, by WRONG, and with WRONG 0 in none. It is linked over the library by --wrap. */
+/* Stand-ins for mpt_edit and mpt_open that make the stores of document 01's list, as the second program gives it, and answer as they should;
+ * wrong in one way alone, by WRONG, and with WRONG 0 in none. They are linked over the library by --wrap. */
 #include "test.h"
 
 static void store(const struct store *store)
 {
+    uint64_t at = store->at;
+#if WRONG == 7 /* the page of a block is unlinked in another domain */
+    if (store->word >> 44 == 6 && table.slots[OTHER])
+        at = (PPN(table.slots[OTHER]) - FIRST) * PAGE_ENTRIES + store->block;
+#endif
 #if WRONG == 2 /* two stores of 4 bytes */
-    ((volatile uint32_t *)(TABLE + store->at))[0] = (uint32_t)store->word;
-    ((volatile uint32_t *)(TABLE + store->at))[1] = store->word >> 32;
+    ((volatile uint32_t *)(TABLE + at))[0] = (uint32_t)store->word;
+    ((volatile uint32_t *)(TABLE + at))[1] = store->word >> 32;
 #else
-    *(volatile uint64_t *)(TABLE + store->at) = store->word;
+    *(volatile uint64_t *)(TABLE + at) = store->word;
 #endif
 }
 
-/* The new page of case C: entries 0 to 511 of the list, and 512 links it. */
+/* A new page: entries 0 to 511 of the list, and 512 links it. */
 static uint64_t place(uint64_t k, uint64_t count)
 {
     if (count < PAGE_ENTRIES)
@@ -26,11 +31,8 @@ static uint64_t place(uint64_t k, uint64_t count)
 #endif
 }
 
-uint64_t __wrap_mpt_edit(uint64_t paw, uint64_t first, uint64_t *words, size_t size, const uint64_t slots[8], uint64_t slot, uint64_t start,
-                         uint64_t length, uint64_t permission, uint64_t limit)
+static void make_stores(void)
 {
-    (void)paw, (void)first, (void)words, (void)size, (void)slots, (void)limit;
-    struct edit edit = {slot, start, length, permission};
     for (uint64_t k = 0; k < watched.count; k++) {
         if (WRONG == 4 && k == 99) /* one word left out */
             continue;
@@ -40,5 +42,20 @@ uint64_t __wrap_mpt_edit(uint64_t paw, uint64_t first, uint64_t *words, size_t s
         if (WRONG == 5 && k == 99) /* one word twice */
             store(&watched.list[k]);
     }
-    return 256 | 1 << 9 | fence_of(&edit, watched.list, watched.count) << 10 | SDID << 12 | watched.count << 18;
+}
+
+uint64_t __wrap_mpt_edit(uint64_t paw, uint64_t first, uint64_t *words, size_t size, const uint64_t slots[8], uint64_t slot, uint64_t start,
+                         uint64_t length, uint64_t permission, uint64_t limit)
+{
+    (void)paw, (void)first, (void)words, (void)size, (void)limit;
+    struct edit edit = {slot, start, length, permission};
+    make_stores();
+    return 256 | 1 << 9 | fence_of(&edit, watched.list, watched.count) << 10 | (slots[slot] >> 54 & 63) << 12 | watched.count << 18;
+}
+
+uint64_t __wrap_mpt_open(uint64_t paw, uint64_t first, uint64_t *words, size_t size, const uint64_t slots[8], uint64_t slot, uint64_t sdid)
+{
+    (void)paw, (void)words, (void)size, (void)slots, (void)slot;
+    make_stores();
+    return REGISTER(sdid, first + watched.list[0].at / PAGE_ENTRIES);
 }

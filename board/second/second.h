@@ -3,7 +3,7 @@
 #include <stddef.h>
 #include <stdint.h>
 
-enum { PAGE = 4096, PAGE_ENTRIES = 512, BLOCK_PAGES = 8192, GIB_BLOCKS = 32, MOST_STORES = 1536 };
+enum { PAGE = 4096, PAGE_ENTRIES = 512, PIECE_PAGES = 512, BLOCK_PAGES = 8192, GIB_BLOCKS = 32, MOST_STORES = 1536, MOST_PAGES = 256 };
 
 /* Beside the four permissions as document 01 numbers them: a walk that faults. */
 enum { FAULT = 4 };
@@ -23,10 +23,15 @@ struct edit {
     uint64_t slot, start, length, permission;
 };
 
-/* "The walk", outside M mode, for every page of a block: its permission, or FAULT. The bytes are aligned to eight. */
-void second_walk(const struct table *table, uint64_t mmpt, uint64_t block, uint8_t reads[BLOCK_PAGES]);
+/* "The walk", outside M mode, for pages of one block: the permission of each, or FAULT. Page and count are multiples of 16, and the bytes
+ * are aligned to eight. */
+void second_walk(const struct table *table, uint64_t mmpt, uint64_t page, uint64_t count, uint8_t *reads);
 
-int second_page_is_free(const struct table *table, uint64_t page);
+/* The same, if the block's entry alone gives all of its pages one permission; else -1. */
+int second_whole_block(const struct table *table, uint64_t mmpt, uint64_t block);
+
+/* A mark for each lent page that is in use, and how many have none. */
+void second_used_pages(const struct table *table, uint8_t used[MOST_PAGES]);
 uint64_t second_free_pages(const struct table *table);
 
 /* The ordered stores of a whole call; how many. */

@@ -5,16 +5,17 @@
 #include <sys/mman.h>
 
 #define TABLE ((void *)0x60000000)
-enum { FIRST = 0x80000, PAGES = 16, COUNT = PAGES * 512, LIMIT = 1536 };
+enum { PAGES = 16, COUNT = PAGES * MPT_PAGE_WORDS };
+static const mpt_page FIRST = {0x80000};
 
 static uint64_t *words;
-static uint64_t slots[8];
+static uint64_t slots[MPT_SLOTS];
 static uint64_t paw = 32;
 static int wrong;
 
 static void edit(uint64_t start, uint64_t length, uint64_t permission)
 {
-    uint64_t answer = mpt_edit(paw, FIRST, words, COUNT, slots, 0, start, length, permission, LIMIT);
+    mpt_edited answer = mpt_edit(paw, FIRST, words, COUNT, slots, 0, mpt_to_address(start), length, permission, MPT_MOST_STORES);
     wrong |= mpt_refused(answer) != 0 || !mpt_all(answer);
 }
 
@@ -25,7 +26,7 @@ int main(int count, char **word)
     if (words != TABLE || name == 0)
         return 2;
     paw = name == 'W' ? 34 : 32;
-    slots[0] = mpt_open(paw, FIRST, words, COUNT, slots, 0, 5);
+    mpt_write_opened(slots, 0, mpt_open(paw, FIRST, words, COUNT, slots, 0, mpt_to_sdid(5)));
     if (name == 'W') {
         edit(0x000000000, 0x080000000, MPT_RW);
         edit(0x0C0000000, 0x340000000, MPT_RW);

@@ -4,8 +4,9 @@
 #include "say.h"
 #include "second.h"
 
-enum { PAW = 32, FIRST = 0x80000, PAGES = 16, LIMIT = 1536 };
-static uint64_t words[PAGES * PAGE_ENTRIES], slots[8];
+enum { PAW = 32, PAGES = 16, LIMIT = MPT_MOST_STORES };
+static const mpt_page FIRST = {0x80000};
+static uint64_t words[PAGES * PAGE_ENTRIES], slots[MPT_SLOTS];
 static size_t count;
 static uint64_t wrong;
 
@@ -44,25 +45,25 @@ static void new_domain(size_t pages)
         words[k] = UINT64_C(0x3333333333333333);
     for (int k = 0; k < 8; k++)
         slots[k] = 0;
-    slots[0] = mpt_open(PAW, FIRST, words, count, slots, 0, 5);
+    mpt_write_opened(slots, 0, mpt_open(PAW, FIRST, words, count, slots, 0, mpt_to_sdid(5)));
 }
 
 static uint64_t look(uint64_t kind, uint64_t address)
 {
-    return mpt_lookup(PAW, FIRST, words, count, slots[0], MPT_SUPERVISOR, kind, address);
+    return mpt_lookup(PAW, FIRST, words, count, slots[0], MPT_SUPERVISOR, kind, mpt_to_address(address)).word;
 }
 
-static uint64_t edit(uint64_t start, uint64_t length, uint64_t permission, uint64_t limit)
+static mpt_edited edit(uint64_t start, uint64_t length, uint64_t permission, uint64_t limit)
 {
-    return mpt_edit(PAW, FIRST, words, count, slots, 0, start, length, permission, limit);
+    return mpt_edit(PAW, FIRST, words, count, slots, 0, mpt_to_address(start), length, permission, limit);
 }
 
-static uint64_t page(uint64_t start, uint64_t permission)
+static mpt_edited page(uint64_t start, uint64_t permission)
 {
     return edit(start, 0x1000, permission, LIMIT);
 }
 
-static void made(const char *what, uint64_t answer, uint64_t stores, int all, uint64_t fence)
+static void made(const char *what, mpt_edited answer, uint64_t stores, int all, uint64_t fence)
 {
     say(what);
     put('\n');
@@ -71,7 +72,7 @@ static void made(const char *what, uint64_t answer, uint64_t stores, int all, ui
     expect("  all", mpt_all(answer), all);
     expect("  fence", mpt_fence(answer), fence);
     if (fence != MPT_FENCE_NONE)
-        expect("  of SDID", mpt_fence_sdid(answer), 5);
+        expect("  of SDID", mpt_fence_sdid(answer).value, 5);
 }
 
 static void entries(const char *what, int from, int to, uint64_t want)
@@ -85,7 +86,7 @@ static void entries(const char *what, int from, int to, uint64_t want)
 
 static void free_pages(const char *what, uint64_t want)
 {
-    struct table table = {PAW, FIRST, count / PAGE_ENTRIES, words, slots};
+    struct table table = {PAW, FIRST.value, count / PAGE_ENTRIES, words, slots};
     expect(what, second_free_pages(&table), want);
 }
 
@@ -124,7 +125,7 @@ static void cases_f_to_h(void)
     expect("F: L1 entry 0", words[512], 0x1002);
     memory("F");
     new_domain(PAGES);
-    page(0x40000000, MPT_RW);
+    expect("G: rw at 0x40000000 first", mpt_stores(page(0x40000000, MPT_RW)), 544);
     made("G: rw over a GiB", edit(0x40000000, 0x40000000, MPT_RW, LIMIT), 32, 1, MPT_FENCE_DOMAIN);
     entries("G: L2 entries 32 to 63", 32, 63, UINT64_C(0x0000200000000000));
     free_pages("G: free pages", 15);
@@ -139,17 +140,17 @@ static void cases_i_to_k(void)
 {
     new_domain(PAGES);
     made("I: rw at the top", page(0xfffff000, MPT_RW), 544, 1, MPT_FENCE_DOMAIN);
-    expect("I: rw past the top", edit(0xfffff000, 0x2000, MPT_RW, LIMIT), MPT_BAD_RANGE);
+    expect("I: rw past the top", mpt_refused(edit(0xfffff000, 0x2000, MPT_RW, LIMIT)), MPT_BAD_RANGE);
     expect("I: load past the top", look(MPT_LOAD, 0x100000000), MPT_LOAD_FAULT);
     memory("I");
     new_domain(PAGES);
-    expect("J: rw on a lent page", page(0x8000f000, MPT_RW), MPT_MEETS_LENT);
+    expect("J: rw on a lent page", mpt_refused(page(0x8000f000, MPT_RW)), MPT_MEETS_LENT);
     made("J: rw beside the lent pages", page(0x80010000, MPT_RW), 544, 1, MPT_FENCE_DOMAIN);
     made("J: none on a lent page", page(0x8000f000, MPT_NONE), 0, 1, MPT_FENCE_NONE);
     memory("J");
     new_domain(2);
     made("K: rw at 0x40000000", page(0x40000000, MPT_RW), 544, 1, MPT_FENCE_DOMAIN);
-    expect("K: rw at 0x42000000", page(0x42000000, MPT_RW), MPT_NO_FREE_PAGE);
+    expect("K: rw at 0x42000000", mpt_refused(page(0x42000000, MPT_RW)), MPT_NO_FREE_PAGE);
     made("K: none at 0x40000000", page(0x40000000, MPT_NONE), 32, 1, MPT_FENCE_DOMAIN);
     made("K: rw at 0x42000000 again", page(0x42000000, MPT_RW), 544, 1, MPT_FENCE_DOMAIN);
     memory("K");
@@ -157,16 +158,17 @@ static void cases_i_to_k(void)
 
 static void other_calls(void)
 {
-    expect("check", mpt_sound(PAW, FIRST, words, count, slots), MPT_FINE);
-    expect("check of a broken frame", mpt_sound(29, FIRST, words, count, slots), MPT_BAD_FRAME);
-    expect("a privilege that is none", mpt_lookup(PAW, FIRST, words, count, 0, 2, MPT_LOAD, 0), MPT_OUTSIDE_KIND);
-    expect("a permission that is none", page(0, 4), MPT_OUTSIDE_KIND);
-    expect("open a slot in use", mpt_open(PAW, FIRST, words, count, slots, 0, 6), MPT_BAD_SLOT);
-    uint64_t answer = mpt_close(PAW, FIRST, words, count, slots, 0);
+    expect("check", mpt_sound(PAW, FIRST, words, count, slots).word, MPT_FINE);
+    expect("check of a broken frame", mpt_sound(29, FIRST, words, count, slots).word, MPT_BAD_FRAME);
+    mpt_looked nobody = mpt_lookup(PAW, FIRST, words, count, 0, 2, MPT_LOAD, mpt_to_address(0));
+    expect("a privilege that is none", mpt_lookup_refused(nobody), MPT_OUTSIDE_KIND);
+    expect("a permission that is none", mpt_refused(page(0, 4)), MPT_OUTSIDE_KIND);
+    expect("open a slot in use", mpt_refused(mpt_open(PAW, FIRST, words, count, slots, 0, mpt_to_sdid(6))), MPT_BAD_SLOT);
+    mpt_closed answer = mpt_close(PAW, FIRST, words, count, slots, 0);
     expect("close: fence", mpt_fence(answer), MPT_FENCE_DOMAIN);
-    expect("close: of SDID", mpt_fence_sdid(answer), 5);
+    expect("close: of SDID", mpt_fence_sdid(answer).value, 5);
     words[32] = UINT64_C(5) << 44;
-    expect("check of a TYPE 5 entry", mpt_sound(PAW, FIRST, words, count, slots), MPT_NOT_SOUND);
+    expect("check of a TYPE 5 entry", mpt_sound(PAW, FIRST, words, count, slots).word, MPT_NOT_SOUND);
     memory("other calls");
 }
 

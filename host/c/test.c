@@ -1,14 +1,16 @@
-/* Cases A, C, E and F of document 01, and an argument outside its kind, written against mpt.h
- * alone. Every number is the paper's. Exit status 0 if all answers are right. */
+/* Cases A, C, E and F of document 01, arguments outside their kind, the parts of answers and the slots after them, written against
+ * mpt.h alone. Every number is the paper's. Exit status 0 if all answers are right. */
 #include "mpt.h"
 
 #include <inttypes.h>
 #include <stdio.h>
 
-enum { PAW = 32, FIRST = 0x80000, PAGES = 16, COUNT = PAGES * 512, LIMIT = 1536 };
+enum { PAW = 32, PAGES = 16, COUNT = PAGES * MPT_PAGE_WORDS };
+static const mpt_page FIRST = {0x80000};
+static const mpt_sdid SDID = {5};
 
 static uint64_t words[COUNT];
-static uint64_t slots[8];
+static uint64_t slots[MPT_SLOTS];
 static int wrong;
 
 static void expect(const char *what, uint64_t got, uint64_t want)
@@ -19,34 +21,48 @@ static void expect(const char *what, uint64_t got, uint64_t want)
     fprintf(stderr, "%s: got 0x%" PRIx64 ", document 01 says 0x%" PRIx64 "\n", what, got, want);
 }
 
-static uint64_t look(uint64_t kind, uint64_t address)
+static mpt_looked look(uint64_t kind, uint64_t address)
 {
-    return mpt_lookup(PAW, FIRST, words, COUNT, slots[0], MPT_SUPERVISOR, kind, address);
+    return mpt_lookup(PAW, FIRST, words, COUNT, slots[0], MPT_SUPERVISOR, kind, mpt_to_address(address));
 }
 
-static uint64_t edit_page(uint64_t start, uint64_t permission)
+static mpt_edited edit_page(uint64_t start, uint64_t permission)
 {
-    return mpt_edit(PAW, FIRST, words, COUNT, slots, 0, start, 0x1000, permission, LIMIT);
+    return mpt_edit(PAW, FIRST, words, COUNT, slots, 0, mpt_to_address(start), MPT_PAGE_BYTES, permission, MPT_MOST_STORES);
+}
+
+/* Of a lookup exactly one of the three is not 0. */
+static void looked(const char *what, mpt_looked answer, int allowed, uint64_t fault, uint64_t refused)
+{
+    expect(what, (uint64_t)mpt_allowed(answer), (uint64_t)allowed);
+    expect(what, mpt_fault(answer), fault);
+    expect(what, mpt_lookup_refused(answer), refused);
 }
 
 static void open_bench(void)
 {
-    uint64_t answer = mpt_open(PAW, FIRST, words, COUNT, slots, 0, 5);
+    mpt_opened answer = mpt_open(PAW, FIRST, words, COUNT, slots, 0, SDID);
     expect("open: refused", mpt_refused(answer), 0);
-    expect("open: register", answer, UINT64_C(0x1140000000080000));
-    slots[0] = answer;
-    expect("open again", mpt_open(PAW, FIRST, words, COUNT, slots, 0, 6), MPT_BAD_SLOT);
-    expect("A: load on the new domain", look(MPT_LOAD, 0x40000000), MPT_LOAD_FAULT);
+    expect("open: register", mpt_register(answer), UINT64_C(0x1140000000080000));
+    expect("open: the slot is the caller's to write", slots[0], 0);
+    mpt_write_opened(slots, 0, answer);
+    expect("open: slot 0", slots[0], UINT64_C(0x1140000000080000));
+    answer = mpt_open(PAW, FIRST, words, COUNT, slots, 0, mpt_to_sdid(6));
+    expect("open again", mpt_refused(answer), MPT_BAD_SLOT);
+    expect("open again: register", mpt_register(answer), 0);
+    mpt_write_opened(slots, 0, answer);
+    expect("open again: slot 0", slots[0], UINT64_C(0x1140000000080000));
+    looked("A: load on the new domain", look(MPT_LOAD, 0x40000000), 0, 5, 0);
 }
 
 static void case_c(void)
 {
-    uint64_t answer = edit_page(0x40000000, MPT_RW);
+    mpt_edited answer = edit_page(0x40000000, MPT_RW);
     expect("C: refused", mpt_refused(answer), 0);
     expect("C: stores", mpt_stores(answer), 544);
-    expect("C: all", mpt_all(answer), 1);
+    expect("C: all", (uint64_t)mpt_all(answer), 1);
     expect("C: fence", mpt_fence(answer), MPT_FENCE_DOMAIN);
-    expect("C: fence SDID", mpt_fence_sdid(answer), 5);
+    expect("C: fence SDID", mpt_fence_sdid(answer).value, 5);
     expect("C: L2 entry 32", words[32], UINT64_C(0x0000400000080001));
     for (int entry = 33; entry < 64; entry++)
         expect("C: L2 entries 33 to 63", words[entry], UINT64_C(0x0000600000000000));
@@ -54,44 +70,77 @@ static void case_c(void)
 
 static void case_e(void)
 {
-    expect("E: store", look(MPT_STORE, 0x40000FFF), MPT_FINE);
-    expect("E: fetch", look(MPT_FETCH, 0x40000FFF), MPT_FETCH_FAULT);
-    expect("E: page-table read for a store", look(MPT_WALK_STORE, 0x40001000), MPT_STORE_FAULT);
+    looked("E: store", look(MPT_STORE, 0x40000FFF), 1, 0, 0);
+    looked("E: fetch", look(MPT_FETCH, 0x40000FFF), 0, 1, 0);
+    looked("E: page-table read for a store", look(MPT_WALK_STORE, 0x40001000), 0, 7, 0);
 }
 
 static void case_f(void)
 {
     expect("F: L1 entry 0 before", words[512], 0x2);
-    uint64_t answer = edit_page(0x40003000, MPT_RX);
+    mpt_edited answer = edit_page(0x40003000, MPT_RX);
     expect("F: refused", mpt_refused(answer), 0);
     expect("F: stores", mpt_stores(answer), 1);
-    expect("F: all", mpt_all(answer), 1);
+    expect("F: all", (uint64_t)mpt_all(answer), 1);
     expect("F: fence", mpt_fence(answer), MPT_FENCE_ADDRESS);
-    expect("F: fence SDID", mpt_fence_sdid(answer), 5);
+    expect("F: fence SDID", mpt_fence_sdid(answer).value, 5);
     expect("F: L1 entry 0 after", words[512], 0x1002);
 }
 
-static void last_calls(void)
+static void codes(void)
 {
-    expect("sound", mpt_sound(PAW, FIRST, words, COUNT, slots), MPT_FINE);
-    expect("sound, broken frame", mpt_sound(29, FIRST, words, COUNT, slots), MPT_BAD_FRAME);
-    expect("privilege 2", mpt_lookup(PAW, FIRST, words, COUNT, 0, 2, MPT_LOAD, 0), MPT_OUTSIDE_KIND);
-    expect("permission 4", edit_page(0, 4), MPT_OUTSIDE_KIND);
-    uint64_t answer = mpt_close(PAW, FIRST, words, COUNT, slots, 0);
+    expect("sound", (uint64_t)mpt_is_sound(mpt_sound(PAW, FIRST, words, COUNT, slots)), 1);
+    mpt_checked broken = mpt_sound(MPT_LOWEST_PAW - 1, FIRST, words, COUNT, slots);
+    expect("sound, broken frame", broken.word, MPT_BAD_FRAME);
+    expect("sound, broken frame: is sound", (uint64_t)mpt_is_sound(broken), 0);
+    mpt_address zero = {0};
+    looked("privilege 2", mpt_lookup(PAW, FIRST, words, COUNT, 0, 2, MPT_LOAD, zero), 0, 0, MPT_OUTSIDE_KIND);
+    looked("MODE 2", mpt_lookup(PAW, FIRST, words, COUNT, UINT64_C(2) << 60, MPT_USER, MPT_LOAD, zero), 0, 0, MPT_BAD_REGISTER);
+    expect("permission 4", mpt_refused(edit_page(0, 4)), MPT_OUTSIDE_KIND);
+    expect("the page of an address", mpt_page_of(mpt_to_address(0x40123456)).value, 0x40123);
+}
+
+/* Bare, which is allowed in every frame that keeps its bounds. */
+static void bounds(const char *what, uint64_t paw, size_t pages, int within)
+{
+    static uint64_t memory[(MPT_MOST_PAGES + 1) * MPT_PAGE_WORDS];
+    mpt_looked answer = mpt_lookup(paw, mpt_to_page(1), memory, pages * MPT_PAGE_WORDS, 0, MPT_USER, MPT_LOAD, mpt_to_address(0));
+    looked(what, answer, within, 0, within ? 0 : MPT_BAD_FRAME);
+}
+
+static void close_bench(void)
+{
+    mpt_closed answer = mpt_close(PAW, FIRST, words, COUNT, slots, 0);
     expect("close: refused", mpt_refused(answer), 0);
     expect("close: fence", mpt_fence(answer), MPT_FENCE_DOMAIN);
-    expect("close: fence SDID", mpt_fence_sdid(answer), 5);
-    slots[0] = 0;
-    expect("close again", mpt_close(PAW, FIRST, words, COUNT, slots, 0), MPT_BAD_SLOT);
+    expect("close: fence SDID", mpt_fence_sdid(answer).value, 5);
+    expect("close: the slot is the caller's to write", slots[0], UINT64_C(0x1140000000080000));
+    expect("close: SDID to fence", mpt_write_closed(slots, 0, answer).value, 5);
+    expect("close: slot 0", slots[0], 0);
+    answer = mpt_close(PAW, FIRST, words, COUNT, slots, 0);
+    expect("close again", mpt_refused(answer), MPT_BAD_SLOT);
+    slots[0] = 77;
+    expect("close again: SDID to fence", mpt_write_closed(slots, 0, answer).value, MPT_HIGHEST_SDID + 1);
+    expect("close again: slot 0", slots[0], 77);
 }
 
 int main(void)
 {
+    expect("version", mpt_version(), MPT_VERSION);
+    expect("version fits", (uint64_t)mpt_version_fits(), 1);
     open_bench();
     case_c();
     case_e();
     case_f();
-    last_calls();
+    codes();
+    bounds("below the lowest PAW", MPT_LOWEST_PAW - 1, MPT_FEWEST_PAGES, 0);
+    bounds("the lowest PAW", MPT_LOWEST_PAW, MPT_FEWEST_PAGES, 1);
+    bounds("the highest PAW", MPT_HIGHEST_PAW, MPT_FEWEST_PAGES, 1);
+    bounds("above the highest PAW", MPT_HIGHEST_PAW + 1, MPT_FEWEST_PAGES, 0);
+    bounds("too few pages", PAW, MPT_FEWEST_PAGES - 1, 0);
+    bounds("the most pages", PAW, MPT_MOST_PAGES, 1);
+    bounds("too many pages", PAW, MPT_MOST_PAGES + 1, 0);
+    close_bench();
     if (wrong == 0)
         puts("C interface: cases A, C, E and F as document 01 says");
     return wrong == 0 ? 0 : 1;

@@ -2,24 +2,33 @@
  *
  * What every call shares
  *
- *   paw     the physical address width, 30 to 34
+ *   paw     the physical address width, MPT_LOWEST_PAW to MPT_HIGHEST_PAW
  *   first   the page number of the first lent page: an address divided by 4,096
  *   words   the lent table memory, one entry of 8 bytes a word, lowest address first; low byte first
  *           in memory, as a little-endian machine has it
- *   count   how many words: 512 for each page, 2 to 256 whole pages
+ *   count   how many words: MPT_PAGE_WORDS for each page, MPT_FEWEST_PAGES to MPT_MOST_PAGES whole pages
  *   slots   the eight slots, each an mmpt value; zero means empty. A call reads them and never writes
- *           them: the caller keeps them, and after an open or a close writes the one word that the
- *           call's comment names
+ *           them: the caller keeps them, and writes one after an open and after a close
+ *           (mpt_write_opened and mpt_write_closed do it in the right order)
  *
  * A pointer must be aligned to 8 bytes and good for its count of words, and slots for eight. Slots
  * and words may not overlap. Nothing is kept after the call returns, and nothing is allocated.
  *
- * What every call answers: one word
+ * Kinds that must not be mixed
  *
- *   1 to 8  refused: the numbers of document 01, named below; mpt_refused tells them apart
+ *   A page number, an address and an SDID are structs of one field, made by mpt_to_page,
+ *   mpt_to_address and mpt_to_sdid: one in another's place does not compile. Both ABIs, x86-64's and
+ *   RISC-V's lp64d, pass and return such a struct in the same register as its field.
+ *
+ * What every call answers: one word, in a struct of the call's own
+ *
+ *   1 to 8  refused: the numbers of document 01, named below
  *   255     a privilege, kind or permission code that is not listed here; tested first
- *   else    what the call's comment says; mpt_all, mpt_stores, mpt_fence and mpt_fence_sdid take the
- *           word of a close or an edit apart
+ *   else    what the call's comment says
+ *
+ *   Ask mpt_allowed of a lookup, mpt_is_sound of a check, and mpt_refused of an open, a close or an
+ *   edit. None of them compiles for another's answer: `!mpt_refused(..)` of a lookup would have let a
+ *   fault through.
  *
  * A call that is refused or answers 255 has changed no word of the lent memory and asks no fence.
  */
@@ -29,9 +38,35 @@
 #include <stddef.h>
 #include <stdint.h>
 
+/* The interface's version: the major number grows when a caller must change, the minor one when
+ * something is added. mpt_version says the library's. */
+#define MPT_VERSION_MAJOR 1
+#define MPT_VERSION_MINOR 0
+#define MPT_VERSION ((UINT64_C(1) << 16) * MPT_VERSION_MAJOR + MPT_VERSION_MINOR)
+
+/* An answer may not be left lying. */
+#if defined(__GNUC__) || defined(__clang__)
+#define MPT_MUST_USE __attribute__((warn_unused_result))
+#else
+#define MPT_MUST_USE
+#endif
+
 #ifdef __cplusplus
 extern "C" {
 #endif
+
+/* Document 01's bounds. */
+enum {
+    MPT_LOWEST_PAW = 30,
+    MPT_HIGHEST_PAW = 34,
+    MPT_FEWEST_PAGES = 2, /* of lent memory */
+    MPT_MOST_PAGES = 256,
+    MPT_PAGE_BYTES = 4096,
+    MPT_PAGE_WORDS = 512,
+    MPT_SLOTS = 8,
+    MPT_HIGHEST_SDID = 63,
+    MPT_MOST_STORES = 1536 /* a limit that no edit reaches */
+};
 
 /* Answers. Lowest number first where several fit, except that 8 comes before 7. */
 enum {
@@ -73,6 +108,21 @@ enum { MPT_NONE = 0, MPT_RX = 1, MPT_RW = 2, MPT_RWX = 3 };
  * other than x0, also for the value 0. */
 enum { MPT_FENCE_NONE = 0, MPT_FENCE_DOMAIN = 1, MPT_FENCE_ADDRESS = 2 };
 
+/* The number of a page, a physical address, and a supervisor domain's number. */
+typedef struct mpt_page { uint64_t value; } mpt_page;
+typedef struct mpt_address { uint64_t value; } mpt_address;
+typedef struct mpt_sdid { uint64_t value; } mpt_sdid;
+
+/* What each call answers. */
+typedef struct mpt_looked { uint64_t word; } mpt_looked;
+typedef struct mpt_opened { uint64_t word; } mpt_opened;
+typedef struct mpt_closed { uint64_t word; } mpt_closed;
+typedef struct mpt_edited { uint64_t word; } mpt_edited;
+typedef struct mpt_checked { uint64_t word; } mpt_checked;
+
+/* The library's version, as MPT_VERSION has the header's; mpt_version_fits compares them. */
+MPT_MUST_USE uint64_t mpt_version(void);
+
 /* May an access of this kind, at this privilege, reach this one address under this register?
  *
  *   mmpt       the register's value; any value
@@ -80,10 +130,10 @@ enum { MPT_FENCE_NONE = 0, MPT_FENCE_DOMAIN = 1, MPT_FENCE_ADDRESS = 2 };
  *   kind       MPT_FETCH to MPT_UPDATE_STORE
  *   address    the physical address; any value
  *
- * Answers 0 allowed; 1 or 2 refused; 257, 261 or 263 the fault; 255.
+ * Answers 0 allowed; 1 or 2 refused; 257, 261 or 263 the fault; 255. See mpt_allowed.
  */
-uint64_t mpt_lookup(uint64_t paw, uint64_t first, const uint64_t *words, size_t count, uint64_t mmpt,
-                    uint64_t privilege, uint64_t kind, uint64_t address);
+MPT_MUST_USE mpt_looked mpt_lookup(uint64_t paw, mpt_page first, const uint64_t *words, size_t count, uint64_t mmpt,
+                                   uint64_t privilege, uint64_t kind, mpt_address address);
 
 /* Opens an empty slot for a domain: takes the lowest free page and zeroes it. No fence is needed.
  *
@@ -91,19 +141,19 @@ uint64_t mpt_lookup(uint64_t paw, uint64_t first, const uint64_t *words, size_t 
  *   sdid  0 to 63, held by no other open slot
  *
  * Answers the register of the new domain (MODE 1, this SDID, that page; never below 2^60), which the
- * caller then writes to slots[slot]; 1, 3, 4, 8 or 7 refused.
+ * caller then writes to slots[slot] by mpt_write_opened; 1, 3, 4, 8 or 7 refused.
  */
-uint64_t mpt_open(uint64_t paw, uint64_t first, uint64_t *words, size_t count,
-                  const uint64_t slots[8], uint64_t slot, uint64_t sdid);
+MPT_MUST_USE mpt_opened mpt_open(uint64_t paw, mpt_page first, uint64_t *words, size_t count,
+                                 const uint64_t slots[8], uint64_t slot, mpt_sdid sdid);
 
-/* Closes a slot. The caller then writes zero to slots[slot], and makes the fence before the SDID is
- * used again.
+/* Closes a slot. The caller then writes zero to slots[slot] by mpt_write_closed, and makes the fence
+ * before the SDID is used again.
  *
  * Answers 256, and the fence (always MPT_FENCE_DOMAIN) as mpt_fence and mpt_fence_sdid read it;
  * 1, 3 or 4 refused.
  */
-uint64_t mpt_close(uint64_t paw, uint64_t first, const uint64_t *words, size_t count,
-                   const uint64_t slots[8], uint64_t slot);
+MPT_MUST_USE mpt_closed mpt_close(uint64_t paw, mpt_page first, const uint64_t *words, size_t count,
+                                  const uint64_t slots[8], uint64_t slot);
 
 /* Gives every page of a range one permission in the domain of a slot. Makes the first stores of
  * document 01's ordered list, up to the limit. After a cut edit the next edit in that domain must be
@@ -113,57 +163,27 @@ uint64_t mpt_close(uint64_t paw, uint64_t first, const uint64_t *words, size_t c
  *   start       the first address; a multiple of 4,096
  *   length      in bytes; a multiple of 4,096, not 0
  *   permission  MPT_NONE to MPT_RWX
- *   limit       the most stores to make; 1,536 is always enough
+ *   limit       the most stores to make; MPT_MOST_STORES is always enough
  *
  * Answers 256, and in the bits above: how many stores were made (mpt_stores), whether those were all
  * (mpt_all), and the fence (mpt_fence, mpt_fence_sdid; an address fence is for the address start);
  * 1, 3, 4, 5, 6 or 7 refused; 255.
  */
-uint64_t mpt_edit(uint64_t paw, uint64_t first, uint64_t *words, size_t count,
-                  const uint64_t slots[8], uint64_t slot, uint64_t start, uint64_t length,
-                  uint64_t permission, uint64_t limit);
+MPT_MUST_USE mpt_edited mpt_edit(uint64_t paw, mpt_page first, uint64_t *words, size_t count,
+                                 const uint64_t slots[8], uint64_t slot, mpt_address start, uint64_t length,
+                                 uint64_t permission, uint64_t limit);
 
 /* Is the whole table sound? Changes nothing.
  *
- * Answers 0 sound; 1 the frame breaks its bounds; 3 not sound.
+ * Answers 0 sound; 1 the frame breaks its bounds; 3 not sound. See mpt_is_sound.
  */
-uint64_t mpt_sound(uint64_t paw, uint64_t first, const uint64_t *words, size_t count,
-                   const uint64_t slots[8]);
-
-/* The parts of an answer. */
-
-/* Of an open, a close or an edit: the refusal's number or 255, and 0 if the call was made. */
-static inline uint64_t mpt_refused(uint64_t answer)
-{
-    return answer < 256 ? answer : 0;
-}
-
-/* Of an edit: bits 57:18, how many stores were made. */
-static inline uint64_t mpt_stores(uint64_t answer)
-{
-    return answer >> 18 & ((UINT64_C(1) << 40) - 1);
-}
-
-/* Of an edit: bit 9, whether those were all. */
-static inline int mpt_all(uint64_t answer)
-{
-    return answer >> 9 & 1;
-}
-
-/* Of a close or an edit: bits 11:10, the fence's kind. */
-static inline uint64_t mpt_fence(uint64_t answer)
-{
-    return answer >> 10 & 3;
-}
-
-/* Of a close or an edit that asks a fence: bits 17:12, its SDID. */
-static inline uint64_t mpt_fence_sdid(uint64_t answer)
-{
-    return answer >> 12 & 63;
-}
+MPT_MUST_USE mpt_checked mpt_sound(uint64_t paw, mpt_page first, const uint64_t *words, size_t count,
+                                   const uint64_t slots[8]);
 
 #ifdef __cplusplus
 }
 #endif
+
+#include "mpt_answer.h"
 
 #endif

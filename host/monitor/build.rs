@@ -5,32 +5,40 @@ use std::path::{Path, PathBuf};
 use std::{env, fs, process};
 
 fn main() {
-    println!("cargo::rerun-if-env-changed=MPT_LIBRARY");
-    println!("cargo::rerun-if-changed=build.rs");
+    println!("cargo:rerun-if-env-changed=MPT_LIBRARY");
+    println!("cargo:rerun-if-changed=build.rs");
     if env::var_os("CARGO_FEATURE_PROVED").is_some() {
-        link();
+        match env::var_os("MPT_LIBRARY") {
+            Some(library) => link(Path::new(&library)),
+            None => fail("feature `proved` needs the environment variable MPT_LIBRARY: the full path of the proved static library, as in MPT_LIBRARY=/path/to/libmpt-x86_64.a"),
+        }
     }
 }
 
-fn link() {
-    let Some(library) = env::var_os("MPT_LIBRARY").map(PathBuf::from) else {
-        fail("feature `proved` needs the environment variable MPT_LIBRARY: the full path of the proved static library, as in MPT_LIBRARY=/path/to/libmpt-x86_64.a");
-    };
+fn link(library: &Path) {
+    let name = library.display();
+    let bytes = fs::read(library).unwrap_or_else(|error| {
+        fail(&format!("MPT_LIBRARY={name}: {error}; it must be the full path of a static library"))
+    });
     let folder = PathBuf::from(env::var_os("OUT_DIR").expect("cargo sets OUT_DIR"));
-    copy(&library, &folder.join("libmpt_proved.a"));
-    println!("cargo::rerun-if-changed={}", library.display());
-    println!("cargo::rustc-link-search=native={}", folder.display());
-    println!("cargo::rustc-link-lib=static=mpt_proved");
-}
-
-fn copy(from: &Path, to: &Path) {
-    if let Err(error) = fs::copy(from, to) {
-        fail(&format!("MPT_LIBRARY={}: {error}; it must be the full path of a static library", from.display()));
+    if let Err(error) = fs::write(folder.join("libmpt_proved.a"), &bytes) {
+        fail(&format!("{}: {error}", folder.display()));
     }
+    if names(&bytes, b"\0mpt_version\0") {
+        println!("cargo:rustc-cfg=mpt_version");
+    }
+    println!("cargo:rerun-if-changed={name}");
+    println!("cargo:rustc-link-search=native={}", folder.display());
+    println!("cargo:rustc-link-lib=static=mpt_proved");
 }
 
-/// Cargo shows the line and stops the build.
+/// Whether a symbol's name stands in a library: a library may be older than its version call.
+fn names(library: &[u8], symbol: &[u8]) -> bool {
+    library.windows(symbol.len()).any(|bytes| bytes == symbol)
+}
+
+/// Cargo shows what a build script that failed has said.
 fn fail(message: &str) -> ! {
-    println!("cargo::error={message}");
-    process::exit(0)
+    eprintln!("error: {message}");
+    process::exit(1)
 }

@@ -11,14 +11,14 @@ use Rattle.model.specs.Lookup.{Privilege, machine, supervisor, user, lookup}
 use Rattle.model.specs.Sound.{Slot, sound}
 use Rattle.model.specs.Fence.{Fence, noFence, domainFence, addressFence}
 use Rattle.model.specs.Calls.{Outcome, Reply, refusedWith, opened, closed, edited, openSlot, closeSlot, editSlot}
-use Rattle.api.specs.declared.Who.{Who}
-use Rattle.api.specs.declared.Who.the-variants as who
-use Rattle.api.specs.declared.What.{What}
-use Rattle.api.specs.declared.What.the-variants as what
-use Rattle.api.specs.declared.Grant.{Grant}
-use Rattle.api.specs.declared.Grant.the-variants as grant
+use Rattle.api.specs.declared.PrivilegeCode.{PrivilegeCode}
+use Rattle.api.specs.declared.PrivilegeCode.the-variants as privilegeCode
+use Rattle.api.specs.declared.KindCode.{KindCode}
+use Rattle.api.specs.declared.KindCode.the-variants as kindCode
+use Rattle.api.specs.declared.PermissionCode.{PermissionCode}
+use Rattle.api.specs.declared.PermissionCode.the-variants as permissionCode
 use Rattle.types.specs.Views.{privilegeOf, kindOf, permissionNumber}
-use Rattle.monitor.specs.Edits.{asked}
+use Rattle.monitor.specs.Edits.{requestFrom}
 use Rattle.table.specs.Board.{board}
 
 -- the version of the interface: 1.0
@@ -54,17 +54,17 @@ kindAt n =
 unfoldable pub permissionAt : ℕ → Named ℕ
 permissionAt n = if eqb n 0 then known 0 else if eqb n 1 then known 1 else if eqb n 2 then known 2 else if eqb n 3 then known 3 else unknown
 
-abbrev pub whoOf : Who → Named Privilege
-whoOf (who.Known p) = known (privilegeOf p)
-whoOf who.Unknown = unknown
+abbrev pub privilegeCodeOf : PrivilegeCode → Named Privilege
+privilegeCodeOf (privilegeCode.Known p) = known (privilegeOf p)
+privilegeCodeOf privilegeCode.Unknown = unknown
 
-abbrev pub whatOf : What → Named Kind
-whatOf (what.Known k) = known (kindOf k)
-whatOf what.Unknown = unknown
+abbrev pub kindCodeOf : KindCode → Named Kind
+kindCodeOf (kindCode.Known k) = known (kindOf k)
+kindCodeOf kindCode.Unknown = unknown
 
-abbrev pub grantOf : Grant → Named ℕ
-grantOf (grant.Known p) = known (permissionNumber p)
-grantOf grant.Unknown = unknown
+abbrev pub permissionCodeOf : PermissionCode → Named ℕ
+permissionCodeOf (permissionCode.Known p) = known (permissionNumber p)
+permissionCodeOf permissionCode.Unknown = unknown
 
 -- ---- what is answered: a refusal by its number, 1 to 8; 255 where a code names nothing
 
@@ -101,9 +101,6 @@ doneWord o = replyWord (o .reply) (o .fence) 0
 
 -- ---- the calls
 
-abbrev pub frameIn : ℕ → ℕ → ℕ → Frame
-frameIn paw first pages = record { layout = board; paw = paw; first = first; pages = pages }
-
 module _ (F : Frame) (m : List ℕ) where
   abbrev pub lookupWord : ℕ → Named Privilege → Named Kind → ℕ → ℕ
   lookupWord register (known who) (known kind) address = answerWord (lookup F m register who address kind)
@@ -116,9 +113,9 @@ module _ (F : Frame) (m : List ℕ) where
 
   -- what an edit answers, and the memory that it leaves
   abbrev pub editWord : List Slot → ℕ → ℕ → ℕ → Named ℕ → ℕ → ℕ
-  editWord slots slot start length (known p) limit = doneWord (editSlot F m slots (asked slot start length p) limit)
+  editWord slots slot start length (known p) limit = doneWord (editSlot F m slots (requestFrom slot start length p) limit)
   editWord slots slot start length unknown limit = outside
 
   abbrev pub editMemory : List Slot → ℕ → ℕ → ℕ → Named ℕ → ℕ → List ℕ
-  editMemory slots slot start length (known p) limit = editSlot F m slots (asked slot start length p) limit .memory
+  editMemory slots slot start length (known p) limit = editSlot F m slots (requestFrom slot start length p) limit .memory
   editMemory slots slot start length unknown limit = m

@@ -1,9 +1,10 @@
 // Codes and words: what C asks and is answered.
-use crate::Grant;
-use crate::What;
-use crate::Who;
+use crate::KindCode;
+use crate::PermissionCode;
+use crate::PrivilegeCode;
 use monitor::Outcome;
 use monitor::Reply;
+use table::board::Word;
 use types::Access;
 use types::Answer;
 use types::Fence;
@@ -12,79 +13,78 @@ use types::Permission;
 use types::Privilege;
 use types::number;
 use types::rights;
-use table::board::Word;
 ghost use mathlib.Core.Path.{_≡_};
 ghost use Prim.Native.Nat.{ℕ, _<_, _^_};
 ghost use lib.ListN.{getD};
 ghost use Rattle.model.specs.Numbers.{if_then_else_};
 ghost use Rattle.model.specs.Access.{fault, causeOf, originalOf};
 ghost use Rattle.types.specs.Views.{kindOf, answerOf, fenceOf, replyOf};
-ghost use Rattle.api.specs.Codes.{privilegeAt, kindAt, permissionAt, whoOf, whatOf, grantOf, answerWord, fenceWord, replyWord};
+ghost use Rattle.api.specs.Codes.{privilegeAt, kindAt, permissionAt, privilegeCodeOf, kindCodeOf, permissionCodeOf, answerWord, fenceWord, replyWord};
 
-pub fn who(code: u64) -> Who
-    ensures { λ r. ⌜ whoOf r ≡ privilegeAt code ⌝ }
+pub fn privilege_at(code: u64) -> PrivilegeCode
+    ensures { λ r. ⌜ privilegeCodeOf r ≡ privilegeAt code ⌝ }
 {
     if code == 0 {
-        return Who::Known(Privilege::User);
+        return PrivilegeCode::Known(Privilege::User);
     }
     if code == 1 {
-        return Who::Known(Privilege::Supervisor);
+        return PrivilegeCode::Known(Privilege::Supervisor);
     }
     if code == 3 {
-        return Who::Known(Privilege::Machine);
+        return PrivilegeCode::Known(Privilege::Machine);
     }
-    Who::Unknown
+    PrivilegeCode::Unknown
 }
 
-pub fn what(code: u64) -> What
-    ensures { λ r. ⌜ whatOf r ≡ kindAt code ⌝ }
+pub fn kind_at(code: u64) -> KindCode
+    ensures { λ r. ⌜ kindCodeOf r ≡ kindAt code ⌝ }
 {
     if code == 0 {
-        return What::Known(Kind::Itself(Access::Fetch));
+        return KindCode::Known(Kind::Itself(Access::Fetch));
     }
     if code == 1 {
-        return What::Known(Kind::Itself(Access::Load));
+        return KindCode::Known(Kind::Itself(Access::Load));
     }
     if code == 2 {
-        return What::Known(Kind::Itself(Access::Store));
+        return KindCode::Known(Kind::Itself(Access::Store));
     }
     if code == 3 {
-        return What::Known(Kind::TableRead(Access::Fetch));
+        return KindCode::Known(Kind::TableRead(Access::Fetch));
     }
     if code == 4 {
-        return What::Known(Kind::TableRead(Access::Load));
+        return KindCode::Known(Kind::TableRead(Access::Load));
     }
     if code == 5 {
-        return What::Known(Kind::TableRead(Access::Store));
+        return KindCode::Known(Kind::TableRead(Access::Store));
     }
     if code == 6 {
-        return What::Known(Kind::Update(Access::Fetch));
+        return KindCode::Known(Kind::Update(Access::Fetch));
     }
     if code == 7 {
-        return What::Known(Kind::Update(Access::Load));
+        return KindCode::Known(Kind::Update(Access::Load));
     }
     if code == 8 {
-        return What::Known(Kind::Update(Access::Store));
+        return KindCode::Known(Kind::Update(Access::Store));
     }
-    What::Unknown
+    KindCode::Unknown
 }
 
-pub fn grant(code: u64) -> Grant
-    ensures { λ r. ⌜ grantOf r ≡ permissionAt code ⌝ }
+pub fn permission_at(code: u64) -> PermissionCode
+    ensures { λ r. ⌜ permissionCodeOf r ≡ permissionAt code ⌝ }
 {
     if code == 0 {
-        return Grant::Known(Permission::None);
+        return PermissionCode::Known(Permission::None);
     }
     if code == 1 {
-        return Grant::Known(Permission::Rx);
+        return PermissionCode::Known(Permission::Rx);
     }
     if code == 2 {
-        return Grant::Known(Permission::Rw);
+        return PermissionCode::Known(Permission::Rw);
     }
     if code == 3 {
-        return Grant::Known(Permission::Rwx);
+        return PermissionCode::Known(Permission::Rwx);
     }
-    Grant::Unknown
+    PermissionCode::Unknown
 }
 
 // The fault that an access of this kind can be answered.
@@ -94,7 +94,7 @@ pub fn fault_word(kind: Kind) -> u64
     256 + number::of_cause(rights::cause_of(kind))
 }
 
-// What a lookup answers. no: its access's fault, which is at hand before the lookup, so that the answer is a choice of two words.
+// KindCode a lookup answers. no: its access's fault, which is at hand before the lookup, so that the answer is a choice of two words.
 pub fn answer_word(a: Answer, no: u64) -> u64
     requires { ⌜ ((cause : ℕ) → answerOf a ≡ fault cause → no ≡ answerWord (fault cause)) ⌝ }
     ensures { λ r. ⌜ r ≡ answerWord (answerOf a) ⌝ }

@@ -4,12 +4,14 @@ mod code;
 
 use crate::code::answer_word;
 use crate::code::fault_word;
-use crate::code::grant;
+use crate::code::kind_at;
+use crate::code::permission_at;
+use crate::code::privilege_at;
 use crate::code::reply_word;
 use crate::code::slot_at;
-use crate::code::what;
-use crate::code::who;
 use monitor::Outcome;
+use table::board::Word;
+use table::board::wide;
 use types::Address;
 use types::Admission;
 use types::Frame;
@@ -19,34 +21,32 @@ use types::Permission;
 use types::Privilege;
 use types::Sdid;
 use types::number::of_refusal;
-use table::board::Word;
-use table::board::wide;
 ghost use mathlib.Core.Path.{_≡_};
 ghost use mathlib.Core.List.{List};
 ghost use Prim.Native.Nat.{ℕ, _/_};
 ghost use lib.ListN.{length};
 ghost use Rattle.model.specs.Calls.{openSlot, closeSlot};
 ghost use Rattle.slots.specs.Outcomes.{outcomeOf};
-ghost use Rattle.api.specs.Codes.{version, privilegeAt, kindAt, permissionAt, openedWord, doneWord, frameIn, lookupWord, soundWord, editWord, editMemory};
-ghost use Rattle.table.specs.Board.{WORDS};
+ghost use Rattle.api.specs.Codes.{version, privilegeAt, kindAt, permissionAt, openedWord, doneWord, lookupWord, soundWord, editWord, editMemory};
+ghost use Rattle.table.specs.Board.{boardFrame, WORDS};
 
 // A privilege, a kind of access and a permission by their codes, if they name one.
-pub enum Who {
+pub enum PrivilegeCode {
     Known(Privilege),
     Unknown,
 }
 
-pub enum What {
+pub enum KindCode {
     Known(Kind),
     Unknown,
 }
 
-pub enum Grant {
+pub enum PermissionCode {
     Known(Permission),
     Unknown,
 }
 
-// What an open answers, in one word.
+// KindCode an open answers, in one word.
 fn opened_word(o: Outcome, slot: u64) -> u64
     ensures { λ r. ⌜ ((m : List ℕ) → r ≡ openedWord (outcomeOf o m) slot) ⌝ }
 {
@@ -56,7 +56,7 @@ fn opened_word(o: Outcome, slot: u64) -> u64
     reply_word(reply, fence, wide(slot_at(slots, slot)))
 }
 
-// What a close or an edit answers, in one word. The slots are not looked at.
+// KindCode a close or an edit answers, in one word. The slots are not looked at.
 fn done_word(o: Outcome) -> u64
     ensures { λ r. ⌜ ((m : List ℕ) → r ≡ doneWord (outcomeOf o m)) ⌝ }
 {
@@ -83,27 +83,27 @@ pub extern "C" fn mpt_lookup(
     kind: u64,
     address: u64,
 ) -> u64
-    ensures { λ r. ⌜ r ≡ lookupWord (frameIn paw first (length (now (words .entry)) / WORDS)) (now (words .entry)) mmpt (privilegeAt privilege) (kindAt kind) address ⌝ }
+    ensures { λ r. ⌜ r ≡ lookupWord (boardFrame paw first (length (now (words .entry)) / WORDS)) (now (words .entry)) mmpt (privilegeAt privilege) (kindAt kind) address ⌝ }
 {
     let f = Frame {
         paw: paw,
         first: PageNumber(first),
     };
-    match who(privilege) {
-        Who::Known(p) => match what(kind) {
-            What::Known(k) => {
+    match privilege_at(privilege) {
+        PrivilegeCode::Known(p) => match kind_at(kind) {
+            KindCode::Known(k) => {
                 let no = fault_word(k);
                 answer_word(monitor::lookup(f, words, mmpt, p, k, Address(address)), no)
             }
-            What::Unknown => 255,
+            KindCode::Unknown => 255,
         },
-        Who::Unknown => 255,
+        PrivilegeCode::Unknown => 255,
     }
 }
 
 #[no_mangle]
 pub extern "C" fn mpt_sound(paw: u64, first: u64, words: &[Word], slots: &[Word; 8]) -> u64
-    ensures { λ r. ⌜ r ≡ soundWord (frameIn paw first (length (now (words .entry)) / WORDS)) (now (words .entry)) (now (slots .entry)) ⌝ }
+    ensures { λ r. ⌜ r ≡ soundWord (boardFrame paw first (length (now (words .entry)) / WORDS)) (now (words .entry)) (now (slots .entry)) ⌝ }
 {
     let f = Frame {
         paw: paw,
@@ -126,8 +126,8 @@ pub extern "C" fn mpt_open(
     slot: u64,
     sdid: u64,
 ) -> u64
-    ensures { λ r. ⌜ (r ≡ openedWord (openSlot (frameIn paw first (length (now (words .entry)) / WORDS)) (now (words .entry)) (now (slots .entry)) slot sdid) slot)
-        × (now (words .exit) ≡ openSlot (frameIn paw first (length (now (words .entry)) / WORDS)) (now (words .entry)) (now (slots .entry)) slot sdid .memory) ⌝ }
+    ensures { λ r. ⌜ (r ≡ openedWord (openSlot (boardFrame paw first (length (now (words .entry)) / WORDS)) (now (words .entry)) (now (slots .entry)) slot sdid) slot)
+        × (now (words .exit) ≡ openSlot (boardFrame paw first (length (now (words .entry)) / WORDS)) (now (words .entry)) (now (slots .entry)) slot sdid .memory) ⌝ }
 {
     let f = Frame {
         paw: paw,
@@ -139,8 +139,14 @@ pub extern "C" fn mpt_open(
 }
 
 #[no_mangle]
-pub extern "C" fn mpt_close(paw: u64, first: u64, words: &[Word], slots: &[Word; 8], slot: u64) -> u64
-    ensures { λ r. ⌜ r ≡ doneWord (closeSlot (frameIn paw first (length (now (words .entry)) / WORDS)) (now (words .entry)) (now (slots .entry)) slot) ⌝ }
+pub extern "C" fn mpt_close(
+    paw: u64,
+    first: u64,
+    words: &[Word],
+    slots: &[Word; 8],
+    slot: u64,
+) -> u64
+    ensures { λ r. ⌜ r ≡ doneWord (closeSlot (boardFrame paw first (length (now (words .entry)) / WORDS)) (now (words .entry)) (now (slots .entry)) slot) ⌝ }
 {
     let f = Frame {
         paw: paw,
@@ -163,19 +169,19 @@ pub extern "C" fn mpt_edit(
     permission: u64,
     limit: u64,
 ) -> u64
-    ensures { λ r. ⌜ (r ≡ editWord (frameIn paw first (length (now (words .entry)) / WORDS)) (now (words .entry)) (now (slots .entry)) slot start size (permissionAt permission) limit)
-        × (now (words .exit) ≡ editMemory (frameIn paw first (length (now (words .entry)) / WORDS)) (now (words .entry)) (now (slots .entry)) slot start size (permissionAt permission) limit) ⌝ }
+    ensures { λ r. ⌜ (r ≡ editWord (boardFrame paw first (length (now (words .entry)) / WORDS)) (now (words .entry)) (now (slots .entry)) slot start size (permissionAt permission) limit)
+        × (now (words .exit) ≡ editMemory (boardFrame paw first (length (now (words .entry)) / WORDS)) (now (words .entry)) (now (slots .entry)) slot start size (permissionAt permission) limit) ⌝ }
 {
     let f = Frame {
         paw: paw,
         first: PageNumber(first),
     };
     let kept = *slots;
-    match grant(permission) {
-        Grant::Known(p) => {
+    match permission_at(permission) {
+        PermissionCode::Known(p) => {
             let o = monitor::edit(f, words, kept, slot, Address(start), size, p, limit);
             done_word(o)
         }
-        Grant::Unknown => 255,
+        PermissionCode::Unknown => 255,
     }
 }

@@ -10,9 +10,9 @@ use lib.Seq.{getD-take, length-take-le, take-all}
 use borrow.Author.Tests.{le-leb, lt-leb, ne-eqb}
 use Rattle.model.specs.Calls.{finished, rootOf, storeList, storeListWith}
 use Rattle.entries.proofs.Runs.{run-whole, run-short}
-use Rattle.edit.specs.Done.{fenceAfter}
-use Rattle.edit.specs.Kinds.{wholeList}
-use Rattle.entries.specs.Run.{whole, cut, runFrom, run}
+use Rattle.edit.specs.Made.{fenceAfter}
+use Rattle.edit.specs.Blocks.{wholeList}
+use Rattle.entries.specs.Run.{allMade, limitReached, runFrom, run}
 use Rattle.types.specs.declared.Budget.{Budget}
 use Rattle.laws.proofs.Choices.{split}
 use Rattle.model.specs.Fence.{noFence, domainFence, addressFence, inRoot, oneL1Store, fenceFor}
@@ -25,14 +25,14 @@ use Rattle.model.specs.Stores.{Store, apply, newPages}
 use Rattle.theory.proofs.NewPages.{same-pages}
 
 -- the last of one store
-pub last-of : (limit : ℕ) (s : Store) (m : List ℕ) (l : Budget) (n : List ℕ) → run (record { more = limit; last = 0 }) (s ∷ []) m ≡ whole l n → l .last ≡ s .at
+pub last-of : (limit : ℕ) (s : Store) (m : List ℕ) (l : Budget) (n : List ℕ) → run (record { more = limit; last = 0 }) (s ∷ []) m ≡ allMade l n → l .last ≡ s .at
 unfolding runFrom
 last-of zero s m l n e = absurd (let z : _≡_ {A = ℕ} 0 1 = cc in omega arith)
 last-of (suc k) s m l n e = let x : record { more = k; last = s .at } ≡ l = cc in sym (ap (λ (b : Budget). b .last) x)
 
 module _ (F : Frame) (q : Request) (root sdid : ℕ) (list : List Store) (limit : ℕ) (m : List ℕ) where
   -- all were made
-  module _ (l : Budget) (m′ : List ℕ) (e : run (record { more = limit; last = 0 }) list m ≡ whole l m′) where
+  module _ (l : Budget) (m′ : List ℕ) (e : run (record { more = limit; last = 0 }) list m ≡ allMade l m′) where
     pub all-fits : length list + l .more ≡ limit
     all-fits = run-whole (record { more = limit; last = 0 }) list m l m′ e .0
 
@@ -60,7 +60,7 @@ module _ (F : Frame) (q : Request) (root sdid : ℕ) (list : List Store) (limit 
         (sym z ∙ all-count) (one-here list refl)
 
   -- the limit cut them
-  module _ (m′ : List ℕ) (e : run (record { more = limit; last = 0 }) list m ≡ cut m′) where
+  module _ (m′ : List ℕ) (e : run (record { more = limit; last = 0 }) list m ≡ limitReached m′) where
     few : limit < length list
     few = run-short (record { more = limit; last = 0 }) list m m′ e .0
 

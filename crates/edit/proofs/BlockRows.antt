@@ -5,13 +5,13 @@ use mathlib.Core.List.{List, headD}
 use Prim.Native.Nat.{ℕ, _+_, _-_, _*_, _≤_, _<_}
 use native.Mathlib.Omega.{arith}
 use lib.ListN.{getD}
-use Rattle.edit.specs.Kinds.{storesAt}
-use Rattle.edit.specs.Over.{storesOver, pagesOver}
+use Rattle.edit.specs.Blocks.{storesAt}
+use Rattle.edit.specs.Steps.{storesOver, pagesOver}
 use Rattle.entries.specs.Ahead.{Ahead}
 use Rattle.entries.proofs.Order.{ahead-of, ahead-first}
 use Rattle.entries.specs.Rows.{rowStores, piecesWord}
 use Rattle.types.specs.declared.Gib.{Gib}
-use Rattle.forms.specs.Kinds.{formAt}
+use Rattle.forms.specs.Permissions.{formAt}
 use Rattle.forms.proofs.BoardShape.{board-shape}
 use Rattle.model.specs.Forms.{Request, inRange}
 use Rattle.model.specs.Frame.{Frame, lent, indexOf}

@@ -5,7 +5,7 @@ use mathlib.Core.List.{List}
 use Prim.Native.Nat.{ℕ, _+_, _*_, _^_, _≤_, _<_, min, _%_}
 use native.Mathlib.Omega.{arith}
 use lib.ListN.{length, take, drop, length-take, take-append-drop}
-use Rattle.edit.specs.Kinds.{Encodes, Accepted, wholeList}
+use Rattle.edit.specs.Blocks.{Encodes, Prepared, wholeList}
 use Rattle.entries.specs.Ahead.{Ahead}
 use Rattle.entries.proofs.Order.{ahead-of, ahead-start}
 use Rattle.laws.proofs.Choices.{and-true}
@@ -70,7 +70,7 @@ module _ (f : code.Frame) (m0 : List ℕ) (q : Request) (root : ℕ) (free : Lis
   take-times n x l = omega (arith, sym (times-append x (take n l) (drop n l)) ∙ ap (times x) (take-append-drop n l))
 
   -- the list that the code makes is the model's
-  pub accepted-list : (a : Accepted F m0 q root free) → wholeList F m0 q root free ≡ storeList F m0 (a .slots) q
+  pub accepted-list : (a : Prepared F m0 q root free) → wholeList F m0 q root free ≡ storeList F m0 (a .slots) q
   accepted-list a =
       let k : Accept F (a .slots) q m0 = to-accept F (a .slots) q m0 (a .none) in
       let E : Edit = record { F = F; lawful = board-lawful; slots = a .slots; q = q; low = a .small } in
@@ -78,7 +78,7 @@ module _ (f : code.Frame) (m0 : List ℕ) (q : Request) (root : ℕ) (free : Lis
       ∙ list-is F m0 (a .slots) q
       (two-pages F (ok-of E m0 k) q m0 (rootOf F (a .slots) q) (a .small) (range-of F (a .slots) q m0 k) (roots F (a .slots)) (sound-of E m0 k) (root-in F (a .slots) q m0 k) (a .typed))
 
-  pub facts : Accepted F m0 q root free → Facts f m0 q root free
+  pub facts : Prepared F m0 q root free → Facts f m0 q root free
   unfolding freePages space
   facts a =
       let k : Accept F (a .slots) q m0 = to-accept F (a .slots) q m0 (a .none) in
@@ -113,10 +113,10 @@ module _ (f : code.Frame) (m0 : List ℕ) (q : Request) (root : ℕ) (free : Lis
             (ahead-start (record { F = F; slots = a .slots; q = q; found = m0; typed = record { words = a .typed; permission = a .small }; accepted = a .none }));
       }
 
-  pub root-lent : Accepted F m0 q root free → lent F root ≡ true
+  pub root-lent : Prepared F m0 q root free → lent F root ≡ true
   unfolding entryPage
   root-lent a = let k = facts a in page-lent F (k .ok) (k .rs) m0 (k .sound) root 0 (omega (arith, k .here)) (blocks-pos F (k .ok))
 
-  pub bounds-in : Accepted F m0 q root free → boundsOk F ≡ true
+  pub bounds-in : Prepared F m0 q root free → boundsOk F ≡ true
   unfolding frameOk
   bounds-in a = and-true (boundsOk F) _ (to-accept F (a .slots) q m0 (a .none) .frame) .0

@@ -1,38 +1,38 @@
 // The stores of one block.
-use types::pages::GIB_BLOCKS;
-use types::Step;
-use types::Budget;
-use types::Went;
 use entries::link::link_table;
 use entries::own::own_table;
 use entries::put::put_changed;
 use entries::rows::flat_entries;
 use entries::rows::pieces_row;
-use types::Form;
-use types::Gib;
 use forms::blocks::block_form;
-use table::root::entry_at;
-use types::blocks::next_page;
-use types::blocks::page_from;
-use types::pages::blocks_outside;
-use table::lent::page_at;
-use types::Free;
-use types::Entry;
-use types::Edit;
-use types::NewPage;
-use types::PageNumber;
 use table::board::PIECE_ENTRY;
 use table::board::TYPE;
 use table::board::Word;
 use table::board::narrow;
+use table::lent::page_at;
+use table::root::entry_at;
+use types::Budget;
+use types::Edit;
+use types::Entry;
+use types::Form;
+use types::Free;
+use types::Gib;
+use types::NewPage;
+use types::PageNumber;
+use types::Progress;
+use types::Step;
+use types::blocks::next_page;
+use types::blocks::page_from;
+use types::pages::GIB_BLOCKS;
+use types::pages::blocks_outside;
 ghost use Rattle.model.specs.Layout.{gibBlocks};
 ghost use mathlib.Core.Path.{_≡_};
 ghost use mathlib.Core.Bool.{true, false};
 ghost use mathlib.Core.List.{List, headD};
 ghost use Prim.Native.Nat.{_+_, _-_, _*_, _/_, _%_, _≤_, _<_, _^_};
 ghost use lib.ListN.{drop};
-ghost use Rattle.edit.specs.Kinds.{Encodes, Fresh};
-ghost use Rattle.edit.specs.Over.{Did, storesOver};
+ghost use Rattle.edit.specs.Blocks.{Encodes, HasNewPage};
+ghost use Rattle.edit.specs.Steps.{Advanced, storesOver};
 ghost use Rattle.entries.specs.Ahead.{Ahead};
 ghost use Rattle.entries.specs.Run.{out, run};
 ghost use Rattle.types.specs.Range.{Fair};
@@ -44,7 +44,7 @@ ghost use Rattle.theory.specs.Rooted.{Good, Rooted};
 ghost use Rattle.table.specs.Board.{BLOCKS, board, frameOf};
 
 // The L2 entry of block b, if it changes.
-fn put_entry(edit: Edit, words: &mut [Word], b: u64, word: Word, left: Budget) -> Went
+fn put_entry(edit: Edit, words: &mut [Word], b: u64, word: Word, left: Budget) -> Progress
     ghost { List Store }
     requires { λ ss. ⌜ ss ≡ ifChangedL2 (frameOf (edit .f) (now words)) (now words) (edit .root .0) b word ⌝ }
     requires { λ ss. ⌜ (b < BLOCKS) × (lent (frameOf (edit .f) (now words)) (edit .root .0) ≡ true) × Ahead (now words) ss ⌝ }
@@ -55,7 +55,14 @@ fn put_entry(edit: Edit, words: &mut [Word], b: u64, word: Word, left: Budget) -
 }
 
 // The stores of a block that is to have an L1 page.
-fn table_stores(edit: Edit, words: &mut [Word], e: Entry, b: u64, new: PageNumber, left: Budget) -> Went
+fn table_stores(
+    edit: Edit,
+    words: &mut [Word],
+    e: Entry,
+    b: u64,
+    new: PageNumber,
+    left: Budget,
+) -> Progress
     ghost { List Store }
     requires { λ ss. ⌜ ss ≡ blockStores (frameOf (edit .f) (now words)) (now words) (requestOf (edit .q)) (edit .root .0) wantTable (entryOf e) b (new .0) ⌝ }
     requires { λ ss. ⌜ (b < BLOCKS) × Fair (edit .q) × Good (frameOf (edit .f) (now words)) (now words) (entryOf e) × (lent (frameOf (edit .f) (now words)) (edit .root .0) ≡ true)
@@ -65,7 +72,11 @@ fn table_stores(edit: Edit, words: &mut [Word], e: Entry, b: u64, new: PageNumbe
     if let Entry::Table(t) = e {
         return own_table(edit, words, t, b, left);
     }
-    let page = NewPage { e: e, b: b, page: new };
+    let page = NewPage {
+        e: e,
+        b: b,
+        page: new,
+    };
     link_table(edit, words, page, left)
 }
 
@@ -78,7 +89,7 @@ fn block_stores(
     b: u64,
     new: PageNumber,
     left: Budget,
-) -> Went
+) -> Progress
     ghost { List Store }
     requires { λ ss. ⌜ ss ≡ blockStores (frameOf (edit .f) (now words)) (now words) (requestOf (edit .q)) (edit .root .0) (formOf form) (entryOf e) b (new .0) ⌝ }
     requires { λ ss. ⌜ (b < BLOCKS) × Fair (edit .q) × Good (frameOf (edit .f) (now words)) (now words) (entryOf e) × (lent (frameOf (edit .f) (now words)) (edit .root .0) ≡ true)
@@ -103,9 +114,9 @@ fn one_block(
     left: Budget,
 ) -> Step
     requires { ⌜ Rooted (frameOf (edit .f) (now words)) (now words) (edit .root .0) × (b < blocks (frameOf (edit .f) (now words))) × Fair (edit .q) × (gib .p < 4) × (next < 2 ^ 32)
-        × Fresh (frameOf (edit .f) (now words)) (now words) (requestOf (edit .q)) (edit .root .0) gib b (headD (drop next (freeList free)) 0)
+        × HasNewPage (frameOf (edit .f) (now words)) (now words) (requestOf (edit .q)) (edit .root .0) gib b (headD (drop next (freeList free)) 0)
         × Ahead (now words) (storesOver (frameOf (edit .f) (now words)) (now words) (requestOf (edit .q)) (edit .root .0) gib 1 b (drop next (freeList free))) ⌝ }
-    ensures { λ r. ⌜ Did (frameOf (edit .f) (now (words .entry))) (now (words .entry)) (requestOf (edit .q)) (edit .root .0) gib b (freeList free) next left r (now (words .exit)) ⌝ }
+    ensures { λ r. ⌜ Advanced (frameOf (edit .f) (now (words .entry))) (now (words .entry)) (requestOf (edit .q)) (edit .root .0) gib b (freeList free) next left r (now (words .exit)) ⌝ }
 {
     let e = entry_at(edit.f, words, edit.root, b);
     let form = block_form(edit, words, gib.one, gib.p, e, b);
@@ -133,7 +144,7 @@ fn flat_blocks(
 ) -> Step
     requires { ⌜ (lent (frameOf (edit .f) (now words)) (edit .root .0) ≡ true) × (b < BLOCKS) × (gib .p < 4) × (gib .one ≡ true)
         × Ahead (now words) (storesOver (frameOf (edit .f) (now words)) (now words) (requestOf (edit .q)) (edit .root .0) gib (gibBlocks - b % gibBlocks) b (drop next (freeList free))) ⌝ }
-    ensures { λ r. ⌜ Did (frameOf (edit .f) (now (words .entry))) (now (words .entry)) (requestOf (edit .q)) (edit .root .0) gib b (freeList free) next left r (now (words .exit)) ⌝ }
+    ensures { λ r. ⌜ Advanced (frameOf (edit .f) (now (words .entry))) (now (words .entry)) (requestOf (edit .q)) (edit .root .0) gib b (freeList free) next left r (now (words .exit)) ⌝ }
 {
     let n = GIB_BLOCKS - b % GIB_BLOCKS;
     let at = page_at(edit.f, words, edit.root) + b as usize;
@@ -159,9 +170,9 @@ fn mixed_blocks(
     left: Budget,
 ) -> Step
     requires { ⌜ Rooted (frameOf (edit .f) (now words)) (now words) (edit .root .0) × (b / gibBlocks * gibBlocks + gibBlocks ≤ blocks (frameOf (edit .f) (now words))) × Fair (edit .q) × (gib .p < 4) × (next < 2 ^ 32)
-        × Fresh (frameOf (edit .f) (now words)) (now words) (requestOf (edit .q)) (edit .root .0) gib b (headD (drop next (freeList free)) 0) × (gib .one ≡ false)
+        × HasNewPage (frameOf (edit .f) (now words)) (now words) (requestOf (edit .q)) (edit .root .0) gib b (headD (drop next (freeList free)) 0) × (gib .one ≡ false)
         × Ahead (now words) (storesOver (frameOf (edit .f) (now words)) (now words) (requestOf (edit .q)) (edit .root .0) gib (gibBlocks - b % gibBlocks) b (drop next (freeList free))) ⌝ }
-    ensures { λ r. ⌜ Did (frameOf (edit .f) (now (words .entry))) (now (words .entry)) (requestOf (edit .q)) (edit .root .0) gib b (freeList free) next left r (now (words .exit)) ⌝ }
+    ensures { λ r. ⌜ Advanced (frameOf (edit .f) (now (words .entry))) (now (words .entry)) (requestOf (edit .q)) (edit .root .0) gib b (freeList free) next left r (now (words .exit)) ⌝ }
 {
     let n = blocks_outside(edit.q, b);
     let at = page_at(edit.f, words, edit.root) + b as usize;
@@ -189,9 +200,9 @@ pub fn next_blocks(
     left: Budget,
 ) -> Step
     requires { ⌜ Rooted (frameOf (edit .f) (now words)) (now words) (edit .root .0) × (b / gibBlocks * gibBlocks + gibBlocks ≤ blocks (frameOf (edit .f) (now words))) × Fair (edit .q) × (gib .p < 4) × (next < 2 ^ 32)
-        × Fresh (frameOf (edit .f) (now words)) (now words) (requestOf (edit .q)) (edit .root .0) gib b (headD (drop next (freeList free)) 0)
+        × HasNewPage (frameOf (edit .f) (now words)) (now words) (requestOf (edit .q)) (edit .root .0) gib b (headD (drop next (freeList free)) 0)
         × Ahead (now words) (storesOver (frameOf (edit .f) (now words)) (now words) (requestOf (edit .q)) (edit .root .0) gib (gibBlocks - b % gibBlocks) b (drop next (freeList free))) ⌝ }
-    ensures { λ r. ⌜ Did (frameOf (edit .f) (now (words .entry))) (now (words .entry)) (requestOf (edit .q)) (edit .root .0) gib b (freeList free) next left r (now (words .exit)) ⌝ }
+    ensures { λ r. ⌜ Advanced (frameOf (edit .f) (now (words .entry))) (now (words .entry)) (requestOf (edit .q)) (edit .root .0) gib b (freeList free) next left r (now (words .exit)) ⌝ }
 {
     if gib.one {
         return flat_blocks(edit, words, gib, b, free, next, left);

@@ -2,28 +2,28 @@
 pub mod block;
 
 use crate::block::next_blocks;
-use types::pages::PAGE_BYTES;
-use types::pages::GIB_BYTES;
-use types::pages::GIB_BLOCKS;
-use types::Budget;
-use types::Went;
-use types::Gib;
 use forms::gibs::gib_at;
+use table::board::Word;
+use table::lent::block_count;
 use table::lent::page_at;
-use types::Request;
-use types::Free;
-use types::Fence;
+use types::Budget;
 use types::Edit;
+use types::Fence;
 use types::Frame;
+use types::Free;
+use types::Gib;
 use types::Made;
 use types::PageNumber;
+use types::Progress;
+use types::Request;
 use types::Sdid;
-use table::lent::block_count;
-use table::board::Word;
+use types::pages::GIB_BLOCKS;
+use types::pages::GIB_BYTES;
+use types::pages::PAGE_BYTES;
 ghost use mathlib.Core.Path.{_≡_};
 ghost use mathlib.Core.Bool.{true};
-ghost use Rattle.edit.specs.Done.{fenceAfter, IsMade};
-ghost use Rattle.edit.specs.Kinds.{Accepted, wholeList};
+ghost use Rattle.edit.specs.Made.{fenceAfter, IsMade};
+ghost use Rattle.edit.specs.Blocks.{Prepared, wholeList};
 ghost use Rattle.entries.specs.Run.{out, run};
 ghost use Rattle.model.specs.Fence.{inRoot};
 ghost use Rattle.model.specs.Frame.{lent, boundsOk};
@@ -31,13 +31,8 @@ ghost use Rattle.types.specs.Views.{fenceOf, requestOf, freeList};
 ghost use Rattle.table.specs.Board.{frameOf};
 
 // The stores of an edit that no refusal fits, in order, up to the limit. free: the free pages, lowest first.
-fn stores(
-    edit: Edit,
-    words: &mut [Word],
-    free: Free,
-    limit: Budget,
-) -> Went
-    requires { ⌜ Accepted (frameOf (edit .f) (now words)) (now words) (requestOf (edit .q)) (edit .root .0) (freeList free) ⌝ }
+fn store_blocks(edit: Edit, words: &mut [Word], free: Free, limit: Budget) -> Progress
+    requires { ⌜ Prepared (frameOf (edit .f) (now words)) (now words) (requestOf (edit .q)) (edit .root .0) (freeList free) ⌝ }
     ensures { λ r. ⌜ out (r .all) (r .left) (now (words .exit))
         ≡ run limit (wholeList (frameOf (edit .f) (now (words .entry))) (now (words .entry)) (requestOf (edit .q)) (edit .root .0) (freeList free)) (now (words .entry)) ⌝ }
 {
@@ -50,7 +45,7 @@ fn stores(
         gib = gib_at(edit, words, b, gib);
         let step = next_blocks(edit, words, gib, b, free, next, left);
         if !step.all {
-            return Went {
+            return Progress {
                 all: false,
                 left: left,
             };
@@ -60,7 +55,7 @@ fn stores(
         next = step.next;
         b += step.count;
     }
-    Went {
+    Progress {
         all: true,
         left: left,
     }
@@ -79,14 +74,7 @@ fn in_root(f: Frame, words: &[Word], root: PageNumber, at: usize) -> bool
 }
 
 // The fence after count stores, the last to word at, that were all or were cut.
-fn fence_of(
-    edit: Edit,
-    words: &[Word],
-    sdid: Sdid,
-    count: u64,
-    all: bool,
-    at: usize,
-) -> Fence
+fn fence_of(edit: Edit, words: &[Word], sdid: Sdid, count: u64, all: bool, at: usize) -> Fence
     requires { ⌜ (lent (frameOf (edit .f) (now words)) (edit .root .0) ≡ true) × (boundsOk (frameOf (edit .f) (now words)) ≡ true) ⌝ }
     ensures { λ r. ⌜ fenceOf r ≡ fenceAfter (frameOf (edit .f) (now (words .entry))) (requestOf (edit .q)) (edit .root .0) (sdid .0) count all at ⌝ }
 {
@@ -110,14 +98,8 @@ fn fence_of(
 }
 
 // An edit that no refusal fits.
-pub fn make(
-    edit: Edit,
-    words: &mut [Word],
-    sdid: Sdid,
-    free: Free,
-    limit: u64,
-) -> Made
-    requires { ⌜ Accepted (frameOf (edit .f) (now words)) (now words) (requestOf (edit .q)) (edit .root .0) (freeList free) ⌝ }
+pub fn make(edit: Edit, words: &mut [Word], sdid: Sdid, free: Free, limit: u64) -> Made
+    requires { ⌜ Prepared (frameOf (edit .f) (now words)) (now words) (requestOf (edit .q)) (edit .root .0) (freeList free) ⌝ }
     ensures { λ r. ⌜ IsMade (frameOf (edit .f) (now (words .entry))) (requestOf (edit .q)) (edit .root .0) (sdid .0)
         (wholeList (frameOf (edit .f) (now (words .entry))) (now (words .entry)) (requestOf (edit .q)) (edit .root .0) (freeList free)) limit (now (words .entry)) (now (words .exit)) r ⌝ }
 {
@@ -125,7 +107,7 @@ pub fn make(
         more: limit,
         last: 0,
     };
-    let went = stores(edit, words, free, start);
+    let went = store_blocks(edit, words, free, start);
     let rest = went.left;
     let all = went.all;
     if all {

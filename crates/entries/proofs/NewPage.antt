@@ -7,12 +7,12 @@ use native.Mathlib.Omega.{arith}
 use lib.ListN.{length}
 use Rattle.table.specs.Board.{WORDS, frameOf}
 use Rattle.entries.proofs.Runs.{went-whole, went-cut, joined-end}
-use Rattle.entries.proofs.Order.{ahead-of, Way, way-start, way-end, way-ahead, way-next, way-cut}
+use Rattle.entries.proofs.Order.{ahead-of, Remaining, remaining-start, remaining-end, remaining-ahead, remaining-next, remaining-cut}
 use Rattle.entries.specs.Ahead.{Ahead}
 use Rattle.entries.specs.Pages.{Plain, newRun}
-use Rattle.entries.specs.Run.{whole, out, run}
+use Rattle.entries.specs.Run.{allMade, out, run}
 use Rattle.types.specs.declared.Budget.{Budget}
-use Rattle.types.specs.declared.Went.{Went}
+use Rattle.types.specs.declared.Progress.{Progress}
 use Rattle.model.specs.Entry.{Entry}
 use Rattle.model.specs.Forms.{Request, l1Word}
 use Rattle.model.specs.Frame.{Frame, lent}
@@ -40,11 +40,11 @@ pub record New (f : code.Frame) (q : Request) (e : Entry) (b new : ℕ) (m0 : Li
   pub past : from ≤ i
   pub few : i ≤ to
   pub size : length m ≡ length m0
-  pub way : Way left m0 (newRun (frameOf f m0) m0 q e b new (to - from) from) more m (newRun (frameOf f m0) m0 q e b new (to - i) i)
+  pub way : Remaining left m0 (newRun (frameOf f m0) m0 q e b new (to - from) from) more m (newRun (frameOf f m0) m0 q e b new (to - i) i)
 
 module _ {f : code.Frame} {q : Request} {e : Entry} {b new : ℕ} {m0 : List ℕ} {left : Budget} {from to : ℕ} where
   pub new-start : to ≤ WORDS → from ≤ to → Ahead m0 (newRun (frameOf f m0) m0 q e b new (to - from) from) → New f q e b new m0 left from to m0 left from
-  new-start fits h a = record { fits = fits; past = omega arith; few = h; size = refl; way = way-start refl a }
+  new-start fits h a = record { fits = fits; past = omega arith; few = h; size = refl; way = remaining-start refl a }
 
   module _ {m : List ℕ} {more : Budget} {i : ℕ} (s : New f q e b new m0 left from to m more i) where
     abbrev H : Frame
@@ -58,16 +58,16 @@ module _ {f : code.Frame} {q : Request} {e : Entry} {b new : ℕ} {m0 : List ℕ
           ap (λ (k : ℕ). newRun H m0 q e b new k i) u ∙ joined-append (λ k. storeAt H new k (l1Word H m0 q e b k) ∷ []) n (to - (i + n)) i
 
       pub new-ahead : q .permission < 4 → Plain e → Ahead m (newRun (frameOf f m) m q e b new n i)
-      new-ahead low pl = ahead-of (sym (run-same f q low e pl b new m0 m (s .size) n i)) (way-ahead (s .way) (newRun H m0 q e b new n i) _ parts)
+      new-ahead low pl = ahead-of (sym (run-same f q low e pl b new m0 m (s .size) n i)) (remaining-ahead (s .way) (newRun H m0 q e b new n i) _ parts)
 
     -- a turn that stores them
-    module _ (n : ℕ) (low : q .permission < 4) (pl : Plain e) (h : i + n ≤ to) (r : Went) (m′ : List ℕ)
+    module _ (n : ℕ) (low : q .permission < 4) (pl : Plain e) (h : i + n ≤ to) (r : Progress) (m′ : List ℕ)
         (said : out (r .all) (r .left) m′ ≡ run more (newRun (frameOf f m) m q e b new n i) m) where
       step-new : out (r .all) (r .left) m′ ≡ run more (newRun H m0 q e b new n i) m
       step-new = said ∙ ap (λ (ss : List Store). run more ss m) (run-same f q low e pl b new m0 m (s .size) n i)
 
       pub new-cut : not (r .all) ≡ true → out (r .all) (r .left) m′ ≡ run left (newRun H m0 q e b new (to - from) from) m0
-      new-cut t = let z = went-cut r m′ t in z ∙ way-cut (s .way) (newRun H m0 q e b new n i) _ (parts n h) (sym z ∙ step-new)
+      new-cut t = let z = went-cut r m′ t in z ∙ remaining-cut (s .way) (newRun H m0 q e b new n i) _ (parts n h) (sym z ∙ step-new)
 
       pub new-next : not (r .all) ≡ false → length m′ ≡ length m → New f q e b new m0 left from to m′ (r .left) (i + n)
       new-next t len =
@@ -77,13 +77,13 @@ module _ {f : code.Frame} {q : Request} {e : Entry} {b new : ℕ} {m0 : List ℕ
             past = omega (arith, s .past);
             few = h;
             size = len ∙ s .size;
-            way = way-next (s .way) (newRun H m0 q e b new n i) _ (parts n h) (sym z ∙ step-new);
+            way = remaining-next (s .way) (newRun H m0 q e b new n i) _ (parts n h) (sym z ∙ step-new);
           }
 
-    pub new-end : to ≤ i → whole more m ≡ run left (newRun H m0 q e b new (to - from) from) m0
+    pub new-end : to ≤ i → allMade more m ≡ run left (newRun H m0 q e b new (to - from) from) m0
     new-end h =
         let z : to - i ≡ 0 = omega arith in
-        way-end (s .way) (joined-end (λ k. storeAt H new k (l1Word H m0 q e b k) ∷ []) (to - i) i z)
+        remaining-end (s .way) (joined-end (λ k. storeAt H new k (l1Word H m0 q e b k) ∷ []) (to - i) i z)
 
     -- what the code asks of the block's entry and of the new page, at every turn
     pub new-good : Plain e → Good H m0 e → Good (frameOf f m) m e

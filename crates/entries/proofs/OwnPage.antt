@@ -10,9 +10,9 @@ use lib.ListN.{length, getD}
 use borrow.Author.Tests.{eqb-true, eqb-false}
 use Rattle.table.specs.Board.{board, WORDS, FIELDS, ENTRY, frameOf}
 use Rattle.entries.proofs.Runs.{run-none, run-whole, joined-turn}
-use Rattle.entries.proofs.Order.{ahead-of, Way, way-start, way-end, way-ahead, way-next, way-cut}
+use Rattle.entries.proofs.Order.{ahead-of, Remaining, remaining-start, remaining-end, remaining-ahead, remaining-next, remaining-cut}
 use Rattle.entries.specs.Ahead.{Ahead}
-use Rattle.entries.specs.Run.{Out, whole, cut, run}
+use Rattle.entries.specs.Run.{Out, allMade, limitReached, run}
 use Rattle.types.specs.declared.Budget.{Budget}
 use Rattle.laws.proofs.Choices.{split}
 use Rattle.model.specs.Entry.{table, clean}
@@ -38,7 +38,7 @@ module _ (f : code.Frame) (q : Request) (t b : ℕ) (m0 : List ℕ) (left : Budg
     pub size : length m ≡ length m0
     pub ahead : (j : ℕ) → i ≤ j → j < WORDS → wordAt G m t j ≡ wordAt G m0 t j
     pub good : Good G m (table t)
-    pub way : Way left m0 (sameTable G m0 q (table t) b t) more m (ownRun G m0 q t b (WORDS - i) i)
+    pub way : Remaining left m0 (sameTable G m0 q (table t) b t) more m (ownRun G m0 q t b (WORDS - i) i)
 
   abbrev gs : ℕ → List Store
   gs k = ifChanged G m0 t k (l1Word G m0 q (table t) b k)
@@ -58,7 +58,7 @@ module _ (f : code.Frame) (q : Request) (t b : ℕ) (m0 : List ℕ) (left : Budg
         size = refl;
         ahead = λ j l v. refl;
         good = g;
-        way = way-start skip a;
+        way = remaining-start skip a;
       }
 
   module _ (low : q .permission < 4) (m : List ℕ) (more : Budget) (i : ℕ) (s : Same m more i) (h : i < WORDS) where
@@ -68,7 +68,7 @@ module _ (f : code.Frame) (q : Request) (t b : ℕ) (m0 : List ℕ) (left : Budg
     pub same-ahead : Ahead m (ifChanged (frameOf f m) m t i (l1Word (frameOf f m) m q (table t) b i))
     same-ahead =
         subst (λ (X : Frame). Ahead m (ifChanged X m t i (l1Word X m q (table t) b i))) (sym (frame-same f m m0 (s .size)))
-        (ahead-of (sym as-found) (way-ahead (s .way) (gs i) _ (joined-turn gs WORDS i h)))
+        (ahead-of (sym as-found) (remaining-ahead (s .way) (gs i) _ (joined-turn gs WORDS i h)))
 
   module _ (low : q .permission < 4) (m : List ℕ) (more : Budget) (i : ℕ) (s : Same m more i) (h : i < WORDS) (o : Out)
       (said : o ≡ run more (ifChanged (frameOf f m) m t i (l1Word (frameOf f m) m q (table t) b i)) m) where
@@ -78,10 +78,10 @@ module _ (f : code.Frame) (q : Request) (t b : ℕ) (m0 : List ℕ) (left : Budg
     step : o ≡ run more (gs i) m
     step = here ∙ ap (λ (ss : List Store). run more ss m) (as-found low m more i s h)
 
-    pub same-cut : {m′ : List ℕ} → o ≡ cut m′ → o ≡ run left (sameTable G m0 q (table t) b t) m0
-    same-cut z = z ∙ way-cut (s .way) (gs i) _ (joined-turn gs WORDS i h) (sym z ∙ step)
+    pub same-cut : {m′ : List ℕ} → o ≡ limitReached m′ → o ≡ run left (sameTable G m0 q (table t) b t) m0
+    same-cut z = z ∙ remaining-cut (s .way) (gs i) _ (joined-turn gs WORDS i h) (sym z ∙ step)
 
-    pub same-next : {l : Budget} {m′ : List ℕ} → o ≡ whole l m′ → Same m′ l (i + 1)
+    pub same-next : {l : Budget} {m′ : List ℕ} → o ≡ allMade l m′ → Same m′ l (i + 1)
     same-next {l} {m′} z =
         let wrote : Put G m m′ t i (l1Word G m q (table t) b i)
         = put-changed G m (omega (arith, s .size)) t i (l1Word G m q (table t) b i) (s .good .0) h m′
@@ -97,21 +97,21 @@ module _ (f : code.Frame) (q : Request) (t b : ℕ) (m0 : List ℕ) (left : Budg
                 ap (λ (k : ℕ). clean board (wordAt G m′ t k)) same ∙ ap (clean board) (wrote .here) ∙ l1-clean G board-shape m q low (table t) (s .good) b i)
                 (λ y. ap (clean board) (wrote .others t j (s .good .0) u (λ x. eqb-false j i y)) ∙ s .good .1 j u),
           );
-          way = way-next (s .way) (gs i) _ (joined-turn gs WORDS i h) (sym z ∙ step);
+          way = remaining-next (s .way) (gs i) _ (joined-turn gs WORDS i h) (sym z ∙ step);
         }
 
   -- the entries from to on lie outside the range
   pub same-end : q .permission < 4 → Good G m0 (table t) → ((j : ℕ) → getD m0 j 0 < ENTRY) → (to : ℕ)
       → ((k : ℕ) → b * 8192 + to * FIELDS ≤ k → k < b * 8192 + 8192 → inRange q k ≡ false)
-      → (m : List ℕ) (more : Budget) (i : ℕ) → Same m more i → to ≤ i → whole more m ≡ run left (sameTable G m0 q (table t) b t) m0
+      → (m : List ℕ) (more : Budget) (i : ℕ) → Same m more i → to ≤ i → allMade more m ≡ run left (sameTable G m0 q (table t) b t) m0
   same-end low g low64 to o m more i s h =
-      way-end (s .way) (joined-none gs (WORDS - i) i (λ j lo hi. entry-stays G board-shape m0 q low t b g low64 j (omega (arith, s .few)) (λ k l v. o k (omega arith) (omega (arith, s .few)))))
+      remaining-end (s .way) (joined-none gs (WORDS - i) i (λ j lo hi. entry-stays G board-shape m0 q low t b g low64 j (omega (arith, s .few)) (λ k l v. o k (omega arith) (omega (arith, s .few)))))
 
 -- ---- a block outside the range: its own page does not change
 
 pub own-none : (f : code.Frame) (m : List ℕ) (q : Request) (low : q .permission < 4) (t b : ℕ) → Good (frameOf f m) m (table t)
     → ((k : ℕ) → b * 8192 ≤ k → k < b * 8192 + 8192 → inRange q k ≡ false) → ((j : ℕ) → getD m j 0 < ENTRY) → (left : Budget)
-    → whole left m ≡ run left (sameTable (frameOf f m) m q (table t) b t) m
+    → allMade left m ≡ run left (sameTable (frameOf f m) m q (table t) b t) m
 unfolding sameTable
 own-none f m q low t b g o low64 left =
     sym (ap (λ (ss : List Store). run left ss m)

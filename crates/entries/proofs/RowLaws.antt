@@ -7,7 +7,7 @@ use native.Mathlib.Omega.{arith}
 use lib.Dec.{eqb}
 use lib.ListN.{length, getD, length-set}
 use Rattle.entries.specs.Ahead.{Ahead}
-use Rattle.entries.specs.Run.{Out, whole, cut, out, run}
+use Rattle.entries.specs.Run.{Out, allMade, limitReached, out, run}
 use Rattle.entries.specs.Rows.{changeAt, rowStores, fillStores}
 use Rattle.types.specs.declared.Budget.{Budget}
 use Rattle.model.specs.Numbers.{if_then_else_, joined}
@@ -23,7 +23,7 @@ module _ (to : ℕ → ℕ) (m0 : List ℕ) (left : Budget) (at : ℕ) where
   pub record InRow (m : List ℕ) (more : Budget) (i : ℕ) : Type 0 where
     pub size : length m ≡ length m0
     pub ahead : (k : ℕ) → at + i ≤ k → getD m k 0 ≡ getD m0 k 0
-    pub done : whole more m ≡ run left (rowStores m0 to i at) m0
+    pub done : allMade more m ≡ run left (rowStores m0 to i at) m0
 
   pub row-start : InRow m0 left 0
   unfolding joined
@@ -52,7 +52,7 @@ module _ (to : ℕ → ℕ) (m0 : List ℕ) (left : Budget) (at : ℕ) where
     pub row-said : o ≡ run left (rowStores m0 to (i + 1) at) m0
     row-said = sym (ap (λ (l : List Store). run left l m0) turn ∙ run-on left (rowStores m0 to i at) m0 (s .done) (changeAt m0 to (at + i)) ∙ sym step)
 
-    pub row-next : {l : Budget} {m′ : List ℕ} → o ≡ whole l m′ → InRow m′ l (i + 1)
+    pub row-next : {l : Budget} {m′ : List ℕ} → o ≡ allMade l m′ → InRow m′ l (i + 1)
     row-next {l} {m′} z =
         let wrote : m′ ≡ apply (changeAt m0 to (at + i)) m = run-whole more (changeAt m0 to (at + i)) m l m′ (sym step ∙ z) .1 in
         record {
@@ -62,7 +62,7 @@ module _ (to : ℕ → ℕ) (m0 : List ℕ) (left : Budget) (at : ℕ) where
         }
 
     -- a row that is cut is cut whatever was to follow
-    pub row-cut : {m′ : List ℕ} → o ≡ cut m′ → (n : ℕ) → i < n → o ≡ run left (rowStores m0 to n at) m0
+    pub row-cut : {m′ : List ℕ} → o ≡ limitReached m′ → (n : ℕ) → i < n → o ≡ run left (rowStores m0 to n at) m0
     row-cut z n h =
         let u : n ≡ i + 1 + (n - (i + 1)) = omega arith in
         z
@@ -75,14 +75,14 @@ module _ (to : ℕ → ℕ) (m0 : List ℕ) (left : Budget) (at : ℕ) where
 module _ (word : ℕ) (m0 : List ℕ) (left : Budget) (at : ℕ) where
   pub record Filled (m : List ℕ) (rest : Budget) (i : ℕ) : Type 0 where
     pub size : length m ≡ length m0
-    pub done : whole rest m ≡ run left (fillStores word i at) m0
+    pub done : allMade rest m ≡ run left (fillStores word i at) m0
     pub count : rest .more + i ≡ left .more
 
   pub fill-start : Filled m0 left 0
   unfolding joined
   fill-start = record { size = refl; done = sym (run-none left m0); count = omega arith }
 
-  pub fill-next : (m : List ℕ) (rest : Budget) (i : ℕ) → Filled m rest i → (l : Budget) (m′ : List ℕ) → whole l m′ ≡ run rest (storeOf (at + i) word ∷ []) m → Filled m′ l (i + 1)
+  pub fill-next : (m : List ℕ) (rest : Budget) (i : ℕ) → Filled m rest i → (l : Budget) (m′ : List ℕ) → allMade l m′ ≡ run rest (storeOf (at + i) word ∷ []) m → Filled m′ l (i + 1)
   unfolding joined apply
   fill-next m rest i s l m′ e =
       let k = run-whole rest (storeOf (at + i) word ∷ []) m l m′ (sym e) in
@@ -99,6 +99,6 @@ pub row-none : (to : ℕ → ℕ) (m0 : List ℕ) (left : Budget) (at n : ℕ) �
 unfolding joined
 row-none to m0 left at n z all l m e = same all (e ∙ ap (λ (k : ℕ). run left (rowStores m0 to k at) m0) z ∙ run-none left m0)
   where
-    same : (all : Bool) → out all l m ≡ whole left m0 → m ≡ m0
+    same : (all : Bool) → out all l m ≡ allMade left m0 → m ≡ m0
     same true y = cc
     same false y = absurd (let x : _≡_ {A = ℕ} 0 1 = cc in omega arith)

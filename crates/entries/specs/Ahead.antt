@@ -1,2 +1,2 @@
 -- Where an edit stands between two of its stores.
-pub use Rattle.shapes.specs.Ahead.{Edit, listOf, leaves, Ahead, Turned}
+pub use Rattle.shapes.specs.Ahead.{AcceptedEdit, listOf, leaves, Ahead, Turned}

@@ -8,21 +8,21 @@ use Rattle.types.specs.declared.Budget.{Budget}
 
 -- all were made, and what is left; or the limit cut them
 pub data Out : Type 0 where
-  whole : Budget → List ℕ → Out
-  cut : List ℕ → Out
+  allMade : Budget → List ℕ → Out
+  limitReached : List ℕ → Out
 
 abbrev pub out : Bool → Budget → List ℕ → Out
-out true left m = whole left m
-out false left m = cut m
+out true left m = allMade left m
+out false left m = limitReached m
 
 abbrev pub andThen : Out → (Budget → List ℕ → Out) → Out
-andThen (whole left m) next = next left m
-andThen (cut m) next = cut m
+andThen (allMade left m) next = next left m
+andThen (limitReached m) next = limitReached m
 
 -- more stores may be made, and the last went to word last
 unfoldable pub runFrom : ℕ → ℕ → List Store → List ℕ → Out
-runFrom more last [] m = whole (record { more = more; last = last }) m
-runFrom zero last (s ∷ ss) m = cut m
+runFrom more last [] m = allMade (record { more = more; last = last }) m
+runFrom zero last (s ∷ ss) m = limitReached m
 runFrom (suc more) last (s ∷ ss) m = runFrom more (s .at) ss (set m (s .at) (s .word))
 
 abbrev pub run : Budget → List Store → List ℕ → Out

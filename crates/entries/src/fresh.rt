@@ -1,21 +1,21 @@
 // The stores that fill a new L1 page.
-use types::Budget;
-use types::Went;
 use crate::put::put;
 use crate::rows::fill;
 use forms::words::after_word;
 use forms::words::old_word;
-use table::lent::page_at;
-use types::Place;
-use types::Request;
 use range::pages::first_entry;
 use range::pages::past_entry;
-use types::Entry;
-use types::Edit;
-use types::NewPage;
 use table::board::PAGE_WORDS;
 use table::board::PIECE_WORDS;
 use table::board::Word;
+use table::lent::page_at;
+use types::Budget;
+use types::Edit;
+use types::Entry;
+use types::NewPage;
+use types::Place;
+use types::Progress;
+use types::Request;
 ghost use Rattle.model.specs.Layout.{blockPages};
 ghost use mathlib.Core.Path.{_≡_};
 ghost use mathlib.Core.Bool.{true};
@@ -25,9 +25,9 @@ ghost use Rattle.table.specs.Board.{BLOCKS, WORDS, FIELDS, frameOf};
 ghost use Rattle.entries.specs.Ahead.{Ahead};
 ghost use Rattle.entries.specs.Pages.{Plain, newRun};
 ghost use Rattle.entries.specs.Run.{out, run};
-ghost use Rattle.range.specs.Kinds.{Past};
+ghost use Rattle.range.specs.EntryBounds.{Past};
 ghost use Rattle.model.specs.Forms.{l1Word};
-ghost use Rattle.forms.specs.Kinds.{oldWord};
+ghost use Rattle.forms.specs.Permissions.{oldWord};
 ghost use Rattle.model.specs.Frame as frame;
 ghost use Rattle.model.specs.Frame.{lent};
 ghost use Rattle.model.specs.Stores.{Store, storeAt, newTable};
@@ -36,13 +36,7 @@ ghost use Rattle.theory.specs.Rooted.{Good};
 ghost use Rattle.types.specs.Range.{Fair, Lies};
 
 // L1 entry i of block b, in the new page.
-fn new_entry(
-    edit: Edit,
-    words: &mut [Word],
-    new: NewPage,
-    i: u64,
-    left: Budget,
-) -> Went
+fn new_entry(edit: Edit, words: &mut [Word], new: NewPage, i: u64, left: Budget) -> Progress
     ghost { List Store }
     requires { λ ss. ⌜ ss ≡ (storeAt (frameOf (edit .f) (now words)) (new .page .0) i (l1Word (frameOf (edit .f) (now words)) (now words) (requestOf (edit .q)) (entryOf (new .e)) (new .b) i) ∷ []) ⌝ }
     requires { λ ss. ⌜ (new .b < BLOCKS) × (i < WORDS) × Fair (edit .q) × Good (frameOf (edit .f) (now words)) (now words) (entryOf (new .e)) × (lent (frameOf (edit .f) (now words)) (new .page .0) ≡ true) × Ahead (now words) ss ⌝ }
@@ -62,7 +56,7 @@ fn new_entries(
     from: u64,
     to: u64,
     left: Budget,
-) -> Went
+) -> Progress
     ghost { List Store }
     requires { λ ss. ⌜ ss ≡ newRun (frameOf (edit .f) (now words)) (now words) (requestOf (edit .q)) (entryOf (new .e)) (new .b) (new .page .0) (to - from) from ⌝ }
     requires { λ ss. ⌜ (new .b < BLOCKS) × (to ≤ WORDS) × (from ≤ to) × Fair (edit .q) × Good (frameOf (edit .f) (now words)) (now words) (entryOf (new .e)) × (lent (frameOf (edit .f) (now words)) (new .page .0) ≡ true) × Plain (entryOf (new .e)) × Ahead (now words) ss ⌝ }
@@ -77,7 +71,7 @@ fn new_entries(
         let rest = went.left;
         more = rest;
     }
-    Went {
+    Progress {
         all: true,
         left: more,
     }
@@ -105,7 +99,7 @@ fn old_fill(
     from: u64,
     to: u64,
     left: Budget,
-) -> Went
+) -> Progress
     ghost { List Store }
     requires { λ ss. ⌜ ss ≡ newRun (frameOf (edit .f) (now words)) (now words) (requestOf (edit .q)) (entryOf (new .e)) (new .b) (new .page .0) (to - from) from ⌝ }
     requires { λ ss. ⌜ (new .b < BLOCKS) × (to ≤ WORDS) × (from < to) × Fair (edit .q) × Good (frameOf (edit .f) (now words)) (now words) (entryOf (new .e)) × (lent (frameOf (edit .f) (now words)) (new .page .0) ≡ true) × Plain (entryOf (new .e))
@@ -120,7 +114,7 @@ fn old_fill(
     let word = old_word(edit.f, words, e, from);
     let at = page_at(edit.f, words, new.page) + from as usize;
     let rest = fill(words, at, n as usize, word, left);
-    Went {
+    Progress {
         left: rest,
         all: true,
     }
@@ -134,7 +128,7 @@ fn old_entries(
     from: u64,
     to: u64,
     left: Budget,
-) -> Went
+) -> Progress
     ghost { List Store }
     requires { λ ss. ⌜ ss ≡ newRun (frameOf (edit .f) (now words)) (now words) (requestOf (edit .q)) (entryOf (new .e)) (new .b) (new .page .0) (to - from) from ⌝ }
     requires { λ ss. ⌜ (new .b < BLOCKS) × (to ≤ WORDS) × (from ≤ to) × Fair (edit .q) × Good (frameOf (edit .f) (now words)) (now words) (entryOf (new .e)) × (lent (frameOf (edit .f) (now words)) (new .page .0) ≡ true) × Plain (entryOf (new .e))
@@ -154,7 +148,7 @@ fn old_entries(
         more = rest;
         i = end;
     }
-    Went {
+    Progress {
         all: true,
         left: more,
     }
@@ -173,12 +167,7 @@ fn near_end(q: Request, b: u64, from: u64) -> u64
 }
 
 // All entries of a new page, in order: those below the range, those that it can meet, and those above.
-pub fn stores(
-    edit: Edit,
-    words: &mut [Word],
-    new: NewPage,
-    left: Budget,
-) -> Went
+pub fn fill_page(edit: Edit, words: &mut [Word], new: NewPage, left: Budget) -> Progress
     ghost { List Store }
     requires { λ ss. ⌜ ss ≡ newTable (frameOf (edit .f) (now words)) (now words) (requestOf (edit .q)) (entryOf (new .e)) (new .b) (new .page .0) ⌝ }
     requires { λ ss. ⌜ (new .b < BLOCKS) × Fair (edit .q) × Good (frameOf (edit .f) (now words)) (now words) (entryOf (new .e)) × (lent (frameOf (edit .f) (now words)) (new .page .0) ≡ true) × Plain (entryOf (new .e)) × Ahead (now words) ss ⌝ }

@@ -1,18 +1,18 @@
 // The stores of a block that has an L1 page of its own, and keeps it.
-use types::pages::BLOCK_PAGES;
-use types::Budget;
-use types::Went;
 use crate::put::put_changed;
 use forms::words::after_word;
-use table::lent::page_at;
-use types::Place;
 use range::pages::first_entry;
-use types::pages::lies;
 use range::pages::past_entry;
-use types::Entry;
-use types::Edit;
-use types::PageNumber;
 use table::board::Word;
+use table::lent::page_at;
+use types::Budget;
+use types::Edit;
+use types::Entry;
+use types::PageNumber;
+use types::Place;
+use types::Progress;
+use types::pages::BLOCK_PAGES;
+use types::pages::lies;
 ghost use mathlib.Core.Path.{_≡_};
 ghost use mathlib.Core.List.{List};
 ghost use Prim.Native.Nat.{_<_};
@@ -34,7 +34,7 @@ fn same_entry(
     b: u64,
     i: u64,
     left: Budget,
-) -> Went
+) -> Progress
     ghost { List Store }
     requires { λ ss. ⌜ ss ≡ ifChanged (frameOf (edit .f) (now words)) (now words) (t .0) i (l1Word (frameOf (edit .f) (now words)) (now words) (requestOf (edit .q)) (entry.table (t .0)) b i) ⌝ }
     requires { λ ss. ⌜ (b < BLOCKS) × (i < WORDS) × Fair (edit .q) × Good (frameOf (edit .f) (now words)) (now words) (entry.table (t .0)) × Ahead (now words) ss ⌝ }
@@ -46,13 +46,7 @@ fn same_entry(
 }
 
 // Those L1 entries of block b that change, in order, in the block's own page t. Entries that lie outside the range stay: they are not read.
-fn same_table(
-    edit: Edit,
-    words: &mut [Word],
-    t: PageNumber,
-    b: u64,
-    left: Budget,
-) -> Went
+fn same_table(edit: Edit, words: &mut [Word], t: PageNumber, b: u64, left: Budget) -> Progress
     ghost { List Store }
     requires { λ ss. ⌜ ss ≡ sameTable (frameOf (edit .f) (now words)) (now words) (requestOf (edit .q)) (entry.table (t .0)) b (t .0) ⌝ }
     requires { λ ss. ⌜ (b < BLOCKS) × Fair (edit .q) × Good (frameOf (edit .f) (now words)) (now words) (entry.table (t .0)) × Ahead (now words) ss ⌝ }
@@ -69,27 +63,21 @@ fn same_table(
         let rest = went.left;
         more = rest;
     }
-    Went {
+    Progress {
         all: true,
         left: more,
     }
 }
 
 // The same; outside the range no entry changes.
-pub fn own_table(
-    edit: Edit,
-    words: &mut [Word],
-    t: PageNumber,
-    b: u64,
-    left: Budget,
-) -> Went
+pub fn own_table(edit: Edit, words: &mut [Word], t: PageNumber, b: u64, left: Budget) -> Progress
     ghost { List Store }
     requires { λ ss. ⌜ ss ≡ sameTable (frameOf (edit .f) (now words)) (now words) (requestOf (edit .q)) (entry.table (t .0)) b (t .0) ⌝ }
     requires { λ ss. ⌜ (b < BLOCKS) × Fair (edit .q) × Good (frameOf (edit .f) (now words)) (now words) (entry.table (t .0)) × Ahead (now words) ss ⌝ }
     ensures { λ ss r. ⌜ out (r .all) (r .left) (now (words .exit)) ≡ run left ss (now (words .entry)) ⌝ }
 {
     match lies(edit.q, b * BLOCK_PAGES, BLOCK_PAGES) {
-        Place::Outside => Went {
+        Place::Outside => Progress {
             all: true,
             left: left,
         },

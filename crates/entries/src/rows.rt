@@ -1,16 +1,16 @@
 // Rows: neighbouring entries of a root, each stored if it changes.
-use types::Budget;
-use types::Row;
-use types::Went;
 use crate::put::put_changed;
 use crate::put::put_next;
-use types::Entry;
-use types::pages::GIB_BLOCKS;
-use table::word::decode;
 use table::board::EACH_PIECE;
 use table::board::PIECE_ENTRY;
 use table::board::Word;
 use table::board::narrow;
+use table::word::decode;
+use types::Budget;
+use types::Entry;
+use types::Progress;
+use types::RowProgress;
+use types::pages::GIB_BLOCKS;
 ghost use mathlib.Core.Path.{_≡_};
 ghost use mathlib.Core.List.{List};
 ghost use Prim.Native.Nat.{ℕ, _+_, _≤_, _<_};
@@ -19,7 +19,7 @@ ghost use Rattle.model.specs.Layout.{gibBlocks};
 ghost use Rattle.model.specs.Numbers.{every};
 ghost use Rattle.model.specs.Stores.{Store};
 ghost use Rattle.entries.specs.Ahead.{Ahead};
-ghost use Rattle.entries.specs.Run.{whole, out, run};
+ghost use Rattle.entries.specs.Run.{allMade, out, run};
 ghost use Rattle.entries.specs.Rows.{rowStores, fillStores, differs, piecesWord, PiecesAhead};
 
 // The n words from at, where as many stores may be made: nothing is asked between them.
@@ -27,7 +27,7 @@ pub fn fill(words: &mut [Word], at: usize, n: usize, word: Word, left: Budget) -
     ghost { List Store }
     requires { λ ss. ⌜ ss ≡ fillStores word n at ⌝ }
     requires { λ ss. ⌜ (at + n ≤ length (now words)) × (n ≤ left .more) × Ahead (now words) ss ⌝ }
-    ensures { λ ss r. ⌜ whole r (now (words .exit)) ≡ run left ss (now (words .entry)) ⌝ }
+    ensures { λ ss r. ⌜ allMade r (now (words .exit)) ≡ run left ss (now (words .entry)) ⌝ }
 {
     let mut rest = left;
     for i in 0..n {
@@ -49,7 +49,7 @@ fn all_differ(words: &[Word], at: usize, word: Word) -> bool
 }
 
 // The n words from at are all to be this word.
-fn flat_row(words: &mut [Word], at: usize, n: usize, word: Word, left: Budget) -> Went
+fn flat_row(words: &mut [Word], at: usize, n: usize, word: Word, left: Budget) -> Progress
     ghost { List Store }
     requires { λ ss. ⌜ ss ≡ rowStores (now words) (λ w. word) n at ⌝ }
     requires { λ ss. ⌜ (at + n ≤ length (now words)) × Ahead (now words) ss ⌝ }
@@ -64,14 +64,14 @@ fn flat_row(words: &mut [Word], at: usize, n: usize, word: Word, left: Budget) -
         let rest = went.left;
         more = rest;
     }
-    Went {
+    Progress {
         all: true,
         left: more,
     }
 }
 
 // The same. The entries of a GiB, where all change and the limit allows for them, are filled.
-pub fn flat_entries(words: &mut [Word], at: usize, n: usize, word: Word, left: Budget) -> Went
+pub fn flat_entries(words: &mut [Word], at: usize, n: usize, word: Word, left: Budget) -> Progress
     ghost { List Store }
     requires { λ ss. ⌜ ss ≡ rowStores (now words) (λ w. word) n at ⌝ }
     requires { λ ss. ⌜ (at + n ≤ length (now words)) × Ahead (now words) ss ⌝ }
@@ -87,7 +87,7 @@ pub fn flat_entries(words: &mut [Word], at: usize, n: usize, word: Word, left: B
         return flat_row(words, at, n, word, left);
     }
     let rest = fill(words, at, GIB_BLOCKS as usize, word, left);
-    Went {
+    Progress {
         left: rest,
         all: true,
     }
@@ -106,7 +106,7 @@ fn pieces_word(word: Word) -> Word
 }
 
 // The words from at, n at the most, are to say the same by TYPE 6. An entry with an L1 page ends the row.
-pub fn pieces_row(words: &mut [Word], at: usize, n: usize, left: Budget) -> Row
+pub fn pieces_row(words: &mut [Word], at: usize, n: usize, left: Budget) -> RowProgress
     requires { ⌜ (at + n ≤ length (now words)) × PiecesAhead (now words) n at ⌝ }
     ensures { λ r. ⌜ (r .count ≤ n) × ((k : ℕ) → at ≤ k → k < at + r .count → piecesWord (getD (now (words .entry)) k 0) ≡ 0 → ⊥)
         × (out (r .all) (r .left) (now (words .exit)) ≡ run left (rowStores (now (words .entry)) piecesWord (r .count) at) (now (words .entry))) ⌝ }
@@ -115,7 +115,7 @@ pub fn pieces_row(words: &mut [Word], at: usize, n: usize, left: Budget) -> Row
     for i in 0..n {
         let word = pieces_word(words[at + i]);
         if word == 0 {
-            return Row {
+            return RowProgress {
                 all: true,
                 left: more,
                 count: i,
@@ -124,7 +124,7 @@ pub fn pieces_row(words: &mut [Word], at: usize, n: usize, left: Budget) -> Row
         let went = put_changed(words, more, at + i, word);
         let rest = went.left;
         if !went.all {
-            return Row {
+            return RowProgress {
                 all: false,
                 left: rest,
                 count: i + 1,
@@ -132,7 +132,7 @@ pub fn pieces_row(words: &mut [Word], at: usize, n: usize, left: Budget) -> Row
         }
         more = rest;
     }
-    Row {
+    RowProgress {
         all: true,
         left: more,
         count: n,

@@ -9,7 +9,7 @@ use Rattle.model.specs.Frame.{Frame, blocks}
 use Rattle.shapes.proofs.CountLaws as counts
 use Rattle.shapes.proofs.CountLaws.{pagesAt, lowBlock, highBlock}
 use Rattle.table.specs.Board.{PIECEBYTES, frameOf}
-use Rattle.forms.specs.Kinds.{Ranged, wholePages}
+use Rattle.forms.specs.Permissions.{Ranged, wholePages}
 use Rattle.forms.proofs.BoardShape.{board-shape}
 pub use Rattle.shapes.specs.Blocks.{formOfBlock}
 pub use Rattle.shapes.proofs.CountLaws.{table-none}

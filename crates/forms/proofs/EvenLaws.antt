@@ -12,7 +12,7 @@ use Rattle.types.specs.Range.{Cut}
 use Rattle.shapes.proofs.EvenLaws as evens
 use Rattle.theory.specs.Rooted.{Good}
 use Rattle.table.specs.Board.{board, PIECES, PIECE, INFO, EACHPIECE}
-use Rattle.forms.specs.Kinds.{Even, Mixes}
+use Rattle.forms.specs.Permissions.{Even, Mixes}
 use Rattle.forms.proofs.BoardShape.{board-shape}
 pub use Rattle.shapes.proofs.EvenLaws.{even-flat}
 
@@ -38,5 +38,5 @@ module _ (paw first pages : ℕ) (m : List ℕ) where
     pub even-is : (p : ℕ) → p < 4 → ((k : ℕ) → b * 8192 ≤ k → k < b * 8192 + 8192 → inRange q k ≡ false) → eqb info (p * EACHPIECE) ≡ allAre F m q e p 8192 (b * 8192)
     even-is = evens.even-is F board-shape m q low e g b info fits even
 
-  pub even-pieces : (x b : ℕ) → Even F m (pieces x) b (x % INFO)
+  pub even-pieces : (x b : ℕ) → Even F m (pieces x) b x
   even-pieces = evens.even-pieces F board-shape m

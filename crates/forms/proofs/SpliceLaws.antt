@@ -7,7 +7,7 @@ use Rattle.model.specs.Numbers.{pack}
 use Rattle.types.specs.Range.{Cut}
 use Rattle.shapes.proofs.SpliceLaws as splices
 use Rattle.table.specs.Board.{FIELDS, ENTRY}
-use Rattle.forms.specs.Kinds.{spreadOf, mixedAt}
+use Rattle.forms.specs.Permissions.{spreadOf, mixedAt}
 pub use Rattle.shapes.proofs.SpliceLaws.{splice-bits}
 
 pub mixed-spliced : (q : Request) (s lo hi : ℕ) → Cut ((q .start + 4095) / 4096) s FIELDS lo → Cut ((q .start + q .size + 4095) / 4096) s FIELDS hi → (old : ℕ) → old < ENTRY → q .permission < 4

@@ -1,2 +1,2 @@
---   Kinds    the code's types as the model's, and what the contracts ask of them
-pub mod Kinds
+--   Permissions   what the contracts say of entries, pieces, blocks and GiBs, once the edit is whole
+pub mod Permissions

@@ -1,19 +1,18 @@
 // The finished form of one block.
-use types::pages::BLOCK_PAGES;
-use types::Form;
 use crate::even::even_form;
 use crate::pieces::piece_at;
-use types::Place;
-use types::Request;
-use types::pages::lies;
-use types::Entry;
-use types::Edit;
 use table::board::EACH_PIECE;
 use table::board::LAST_PIECE;
-use table::board::PIECES;
 use table::board::PIECE_BYTES;
-use table::board::PIECE_INFO;
+use table::board::PIECES;
 use table::board::Word;
+use types::Edit;
+use types::Entry;
+use types::Form;
+use types::Place;
+use types::Request;
+use types::pages::BLOCK_PAGES;
+use types::pages::lies;
 ghost use Rattle.model.specs.Layout.{blockPages};
 ghost use mathlib.Core.Path.{_≡_};
 ghost use mathlib.Core.Bool.{true, false};
@@ -61,7 +60,13 @@ fn cut_form(edit: Edit, words: &[Word], e: Entry, b: u64) -> Form
     if !piece_is_one(edit, words, e, b, edit.q.start.0 / PIECE_BYTES % PIECES) {
         return Form::Table;
     }
-    if !piece_is_one(edit, words, e, b, (edit.q.start.0 + edit.q.size) / PIECE_BYTES % PIECES) {
+    if !piece_is_one(
+        edit,
+        words,
+        e,
+        b,
+        (edit.q.start.0 + edit.q.size) / PIECE_BYTES % PIECES,
+    ) {
         return Form::Table;
     }
     pieces_form(edit, words, e, b)
@@ -74,7 +79,7 @@ fn across_form(edit: Edit, words: &[Word], e: Entry, b: u64) -> Form
 {
     match e {
         Entry::Flat(p) => even_form(edit, words, e, b, p * EACH_PIECE),
-        Entry::Pieces(info) => even_form(edit, words, e, b, info % PIECE_INFO),
+        Entry::Pieces(info) => even_form(edit, words, e, b, info),
         Entry::Table(_) => cut_form(edit, words, e, b),
         Entry::Invalid => cut_form(edit, words, e, b),
     }
@@ -90,13 +95,7 @@ fn outside_form(edit: Edit, words: &[Word], e: Entry, b: u64) -> Form
             let info = p * EACH_PIECE;
             Form::Pieces(info)
         }
-        Entry::Pieces(info) => {
-            if info < PIECE_INFO {
-                Form::Pieces(info)
-            } else {
-                pieces_form(edit, words, e, b)
-            }
-        }
+        Entry::Pieces(info) => Form::Pieces(info),
         Entry::Table(_) => pieces_form(edit, words, e, b),
         Entry::Invalid => pieces_form(edit, words, e, b),
     }

@@ -1,24 +1,25 @@
 // A block that is read without an L1 page: its pieces are each of one permission before the edit, and info has them.
-use types::pages::BLOCK_PAGES;
-use types::pages::PAGE_BYTES;
-use types::Form;
-use types::bits::splice;
-use types::Request;
-use types::pages::cut;
-use types::Entry;
-use types::Edit;
-use table::word::piece;
 use table::board::EACH_PIECE;
-use table::board::PIECES;
 use table::board::PIECE_LAST;
 use table::board::PIECE_PAGES;
+use table::board::PIECES;
 use table::board::Word;
+use table::word::PERMISSION_BITS;
+use table::word::piece;
+use types::Edit;
+use types::Entry;
+use types::Form;
+use types::Request;
+use types::bits::splice;
+use types::pages::BLOCK_PAGES;
+use types::pages::PAGE_BYTES;
+use types::pages::cut;
 ghost use mathlib.Core.Path.{_≡_};
 ghost use mathlib.Core.Bool.{false};
 ghost use Prim.Native.Nat.{_<_, _^_};
 ghost use Rattle.types.specs.Range.{Fair};
 ghost use Rattle.table.specs.Board.{BLOCKS, INFO, frameOf};
-ghost use Rattle.forms.specs.Kinds.{Even, Mixes};
+ghost use Rattle.forms.specs.Permissions.{Even, Mixes};
 ghost use Rattle.model.specs.Forms.{formIn};
 ghost use Rattle.types.specs.Views.{entryOf, requestOf, formOf};
 ghost use Rattle.theory.specs.Rooted.{Good};
@@ -55,8 +56,8 @@ pub fn even_form(edit: Edit, words: &[Word], e: Entry, b: u64, info: u64) -> For
     let low = cut((first + PIECE_LAST) / PIECE_PAGES, b * PIECES, PIECES);
     let high = cut((past + PIECE_LAST) / PIECE_PAGES, b * PIECES, PIECES);
     Form::Pieces(splice(
-        splice(info, edit.q.permission * EACH_PIECE, 2 * low),
+        splice(info, edit.q.permission * EACH_PIECE, PERMISSION_BITS * low),
         info,
-        2 * high,
+        PERMISSION_BITS * high,
     ))
 }

@@ -1,23 +1,22 @@
 // Pieces of a block, and whole blocks: are they of one permission once the edit is whole?
-use types::pages::BLOCK_PAGES;
-use types::Piece;
 use crate::words::after_word;
 use crate::words::old_word;
-use table::lent::page_at;
 use crate::words::spread;
-use types::Place;
-use types::Request;
-use types::pages::lies;
-use types::Entry;
-use types::Edit;
-use table::word::piece;
 use table::board::EACH_PIECE;
-use table::board::FIELD;
-use table::board::PIECES;
-use table::board::PIECE_INFO;
 use table::board::PIECE_PAGES;
 use table::board::PIECE_WORDS;
+use table::board::PIECES;
 use table::board::Word;
+use table::lent::page_at;
+use table::word::FIELD_VALUES;
+use table::word::piece;
+use types::Edit;
+use types::Entry;
+use types::Piece;
+use types::Place;
+use types::Request;
+use types::pages::BLOCK_PAGES;
+use types::pages::lies;
 ghost use Rattle.model.specs.Layout.{blockPages};
 ghost use mathlib.Core.Path.{_≡_};
 ghost use Prim.Native.Nat.{_+_, _*_, _≤_, _<_};
@@ -25,7 +24,7 @@ ghost use lib.Dec.{eqb};
 ghost use lib.ListN.{length, getD};
 ghost use Rattle.types.specs.Range.{Fair, Lies};
 ghost use Rattle.table.specs.Board.{BLOCKS, WORDS, FIELDS, PIECES, PIECE, ROW, frameOf};
-ghost use Rattle.forms.specs.Kinds.{PieceIs};
+ghost use Rattle.forms.specs.Permissions.{PieceIs};
 ghost use Rattle.model.specs.Forms.{allAre, afterIn};
 ghost use Rattle.model.specs.Numbers.{every};
 ghost use Rattle.types.specs.Views.{entryOf, requestOf};
@@ -106,7 +105,7 @@ fn old_block_is(edit: Edit, words: &[Word], e: Entry, b: u64, p: u64) -> bool
 {
     match e {
         Entry::Flat(o) => o == p,
-        Entry::Pieces(info) => info % PIECE_INFO == p * EACH_PIECE,
+        Entry::Pieces(info) => info == p * EACH_PIECE,
         Entry::Table(_) => pieces_are(edit, words, e, b, p),
         Entry::Invalid => pieces_are(edit, words, e, b, p),
     }
@@ -129,7 +128,7 @@ pub fn piece_first(edit: Edit, words: &[Word], e: Entry, b: u64, i: u64) -> u64
     requires { ⌜ (b < BLOCKS) × (i < PIECES) × Fair (edit .q) × Good (frameOf (edit .f) (now words)) (now words) (entryOf e) ⌝ }
     ensures { λ r. ⌜ (r ≡ afterIn (frameOf (edit .f) (now (words .entry))) (now (words .entry)) (requestOf (edit .q)) (entryOf e) (b * blockPages + i * PIECE)) × (r < 4) ⌝ }
 {
-    after_word(edit, words, e, b, i * PIECE_WORDS) as u64 % FIELD
+    after_word(edit, words, e, b, i * PIECE_WORDS) as u64 % FIELD_VALUES
 }
 
 // The same for a piece outside the range.
@@ -137,7 +136,7 @@ fn old_first(edit: Edit, words: &[Word], e: Entry, b: u64, i: u64) -> u64
     requires { ⌜ (b < BLOCKS) × (i < PIECES) × Fair (edit .q) × Good (frameOf (edit .f) (now words)) (now words) (entryOf e) × Lies (requestOf (edit .q)) (b * blockPages + i * PIECE) PIECE Place.Outside ⌝ }
     ensures { λ r. ⌜ (r ≡ afterIn (frameOf (edit .f) (now (words .entry))) (now (words .entry)) (requestOf (edit .q)) (entryOf e) (b * blockPages + i * PIECE)) × (r < 4) ⌝ }
 {
-    old_word(edit.f, words, e, i * PIECE_WORDS) as u64 % FIELD
+    old_word(edit.f, words, e, i * PIECE_WORDS) as u64 % FIELD_VALUES
 }
 
 // A piece outside the range: its permission, and whether it is all the piece's.

@@ -1,4 +1,12 @@
 // L1 entries, as they stand and once the edit is whole.
+use table::board::EACH_FIELD;
+use table::board::FIELDS;
+use table::board::PIECE_WORDS;
+use table::board::Word;
+use table::board::narrow;
+use table::lent::page_at;
+use table::word::FIELD_BITS;
+use table::word::piece;
 use types::Edit;
 use types::Entry;
 use types::Frame;
@@ -9,18 +17,11 @@ use types::pages::BLOCK_PAGES;
 use types::pages::PAGE_BYTES;
 use types::pages::cut;
 use types::pages::lies;
-use table::board::EACH_FIELD;
-use table::board::FIELDS;
-use table::board::PIECE_WORDS;
-use table::board::Word;
-use table::board::narrow;
-use table::lent::page_at;
-use table::word::piece;
 ghost use mathlib.Core.Path.{_≡_};
 ghost use Prim.Native.Nat.{_+_, _*_, _/_, _%_, _≤_, _<_, _^_};
 ghost use Rattle.types.specs.Range.{Fair};
 ghost use Rattle.table.specs.Board.{BLOCKS, WORDS, FIELDS, frameOf};
-ghost use Rattle.forms.specs.Kinds.{spreadOf, oldWord, mixedAt};
+ghost use Rattle.forms.specs.Permissions.{spreadOf, oldWord, mixedAt};
 ghost use Rattle.model.specs.Forms.{l1Word};
 ghost use Rattle.model.specs.Numbers.{pack};
 ghost use Rattle.types.specs.Views.{entryOf, requestOf};
@@ -58,7 +59,7 @@ fn splice_fields(low: Word, high: Word, k: u64) -> Word
     if k == FIELDS {
         return low;
     }
-    narrow(splice(low as u64, high as u64, 4 * k))
+    narrow(splice(low as u64, high as u64, FIELD_BITS * k))
 }
 
 // The L1 entry of the pages from s that stands across an end of the range.

@@ -2,6 +2,8 @@
 use mathlib.Core.Path.{_≡_, refl, sym, _∙_}
 use mathlib.Core.Logic.{_⊎_, inl, inr}
 use mathlib.Core.Bool.{Bool, true, false, not, _&&_, _||_, true≢false, false≢true}
+pub use mathlib.Core.Bool.{and-assoc, and-true as and-alone}
+pub use borrow.Author.Tests.{not-true as not-true-false, not-false as not-false-true}
 
 pub and-true : (a b : Bool) → (a && b) ≡ true → (a ≡ true) × (b ≡ true)
 and-true true b h = (refl, h)
@@ -13,18 +15,6 @@ and-both p q = rw (p, q)
 pub and-false : (a b : Bool) → (a && b) ≡ false → a ≡ true → b ≡ true → ⊥
 and-false true b h p q = true≢false (sym q ∙ h)
 and-false false b h p q = false≢true p
-
-pub and-assoc : (a b c : Bool) → ((a && b) && c) ≡ (a && (b && c))
-and-assoc true b c = refl
-and-assoc false b c = refl
-
-pub and-alone : (a : Bool) → (a && true) ≡ a
-and-alone true = refl
-and-alone false = refl
-
-pub not-true-false : (a : Bool) → not a ≡ true → a ≡ false
-not-true-false true h = absurd (false≢true h)
-not-true-false false h = refl
 
 -- a value that is not true is false
 pub true-or-false : (a : Bool) → (a ≡ true) ⊎ (a ≡ false)
@@ -60,7 +50,3 @@ or-false false b h = (refl, h)
 pub or-left : (a b : Bool) → (a || b) ≡ true → a ≡ false → b ≡ true
 or-left true b h e = absurd (true≢false e)
 or-left false b h e = h
-
-pub not-false-true : (a : Bool) → not a ≡ false → a ≡ true
-not-false-true true h = refl
-not-false-true false h = absurd (true≢false h)

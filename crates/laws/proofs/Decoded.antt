@@ -1,13 +1,13 @@
 -- What an L2 entry says, by the number above its INFO: TYPE, with ZERO above it. Of any layout.
 use mathlib.Core.Path.{_≡_, refl, sym, ap, _∙_}
-use Prim.Native.Nat.{ℕ, _+_, _/_, _%_, _^_, _≤_, _<_}
+use Prim.Native.Nat.{ℕ, _/_, _%_, _^_, _≤_, _<_}
 use native.Mathlib.Nat.{div-div-eq-div-mul}
 use native.Mathlib.Omega.{arith}
 use lib.Dec.{eqb}
 use lib.Pow.{pow-add}
 use borrow.Author.Tests.{lt-ltb, le-ltb, eq-eqb, ne-eqb, eqb-true}
 use Rattle.model.specs.Layout.{Layout}
-use Rattle.model.specs.Entry.{Entry, flat, pieces, table, invalid, decode, zeroOf, typeOf, infoOf}
+use Rattle.model.specs.Entry.{flat, pieces, table, invalid, decode, zeroOf, typeOf, infoOf}
 use Rattle.laws.proofs.Choices.{split}
 
 module _ (L : Layout) (w : ℕ) where

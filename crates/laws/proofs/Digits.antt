@@ -1,7 +1,7 @@
 -- A number and its digits: what is packed is read back.
 use mathlib.Core.Path.{_≡_, refl, sym, ap, ap₂, _∙_, subst}
-use Prim.Native.Nat.{ℕ, zero, suc, _+_, _*_, _-_, _/_, _%_, _^_, _≤_, _<_, zero-le, suc-le-suc}
-use native.Mathlib.Nat.{le-of-suc-le-suc, not-suc-le-zero, add-zero, zero-add, div-one, pow-zero, pow-suc, pow-succ', add-mul-div-left, add-mul-mod-self-left, div-eq-of-lt, mod-eq-of-lt, mod-lt, div-div-eq-div-mul, mul-comm, mul-le-mul-left, mod-add-div, div-lt-iff-lt-mul, mul-left-comm, mul-one, mul-add}
+use Prim.Native.Nat.{ℕ, zero, suc, _+_, _*_, _-_, _/_, _%_, _^_, _≤_, _<_}
+use native.Mathlib.Nat.{le-of-suc-le-suc, not-suc-le-zero, add-zero, zero-add, div-one, pow-zero, pow-suc, pow-succ', add-mul-div-left, add-mul-mod-self-left, div-eq-of-lt, mod-eq-of-lt, mod-lt, div-div-eq-div-mul, mul-le-mul-left, mod-add-div, div-lt-iff-lt-mul, mul-left-comm, mul-one, mul-add}
 use native.Mathlib.Omega.{arith}
 use Rattle.model.specs.Numbers.{digit, pack}
 

@@ -1,7 +1,7 @@
 -- A number spliced from two: the digits below k of one, and from k on those of the other.
-use mathlib.Core.Path.{_≡_, refl, sym, ap, ap₂, _∙_, subst}
+use mathlib.Core.Path.{_≡_, sym, ap, _∙_, subst}
 use Prim.Native.Nat.{ℕ, zero, suc, _+_, _*_, _-_, _/_, _%_, _^_, _≤_, _<_}
-use native.Mathlib.Nat.{le-of-suc-le-suc, not-suc-le-zero, add-zero, zero-add, pow-zero, pow-suc, pow-succ', one-le-pow, add-mul-div-left, add-mul-mod-self-left, div-eq-of-lt, mod-eq-of-lt, mod-lt, mod-mod, div-div-eq-div-mul, mul-comm, mul-left-comm, mul-add, mul-le-mul-left, div-lt-iff-lt-mul}
+use native.Mathlib.Nat.{le-of-suc-le-suc, not-suc-le-zero, zero-add, pow-zero, pow-suc, pow-succ', one-le-pow, add-mul-div-left, add-mul-mod-self-left, div-eq-of-lt, mod-lt, mod-mod, div-div-eq-div-mul, mul-comm, mul-left-comm, mul-add, mul-le-mul-left, div-lt-iff-lt-mul}
 use native.Mathlib.Omega.{arith}
 use lib.Arith.{mod-mul}
 use lib.Dec.{ltb}

@@ -1,4 +1,10 @@
 // The lookup: frame, register, privilege, Bare, walk, permission.
+use table::board::Word;
+use table::lent;
+use table::page;
+use table::register;
+use table::root;
+use table::word;
 use types::Address;
 use types::Answer;
 use types::Cause;
@@ -11,14 +17,8 @@ use types::PageNumber;
 use types::Permission;
 use types::Privilege;
 use types::Refusal;
-use table::board::Word;
-use table::lent;
-use table::page;
-use table::register;
-use table::root;
 use types::pages;
 use types::rights;
-use table::word;
 ghost use mathlib.Core.Path.{_≡_};
 ghost use mathlib.Core.Bool.{true};
 ghost use Prim.Native.Nat.{_<_};

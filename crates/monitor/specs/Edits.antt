@@ -9,8 +9,8 @@ use Rattle.model.specs.Sound.{Slot, roots, sound, freePages}
 use Rattle.scan.specs.Free.{clearPages}
 use Rattle.slots.specs.Named.{notOpen}
 
-abbrev pub asked : ℕ → ℕ → ℕ → ℕ → Request
-asked slot start length permission = record { slot = slot; start = start; size = length; permission = permission }
+abbrev pub requestFrom : ℕ → ℕ → ℕ → ℕ → Request
+requestFrom slot start length permission = record { slot = slot; start = start; size = length; permission = permission }
 
 -- refusals 1, 3 and 4 do not fit, the permission is one of the four, and the marks leave just the free pages clear
 pub record InOpenSlot (F : Frame) (m : List ℕ) (slots : List Slot) (q : Request) (marks : List Bool) : Type 0 where

@@ -16,7 +16,7 @@ use Rattle.types.specs.Views.{permissionNumber}
 use Rattle.slots.specs.declared.Outcome.{Outcome}
 use Rattle.types.specs.declared.Reply.the-variants.{Edited}
 use Rattle.slots.specs.Outcomes.{outcomeOf}
-use Rattle.monitor.specs.Edits.{asked}
+use Rattle.monitor.specs.Edits.{requestFrom}
 use Rattle.table.specs.Board.{board, frameOf}
 
 -- how one call ends: it returns, or a watchdog resets the board after so many of its stores
@@ -27,7 +27,7 @@ pub data Ending : Type 0 where
 -- the calls share frame, slots, slot, start, length and permission
 module _ (f : Frame) (slots : List ℕ) (slot start size : ℕ) (permission : Permission) where
   abbrev pub request : Request
-  request = asked slot start size (permissionNumber permission)
+  request = requestFrom slot start size (permissionNumber permission)
 
   -- the contract of `monitor::edit`: it found m, answered r and left m′
   abbrev pub Call : ℕ → List ℕ → Outcome → List ℕ → Type 0

@@ -3,7 +3,6 @@
 use edit::make;
 use forms::gibs::new_pages;
 pub use lookup::lookup;
-use types::Request;
 use range::bounds::bad_range;
 use range::bounds::on_lent_pages;
 pub use slots::Outcome;
@@ -14,6 +13,8 @@ use slots::refused;
 use sound::admit;
 use sound::no_pages;
 use sound::pick::free_pages;
+use table::board::Word;
+use table::register;
 use types::Address;
 use types::Admission;
 use types::Edit;
@@ -21,14 +22,13 @@ use types::Frame;
 use types::Permission;
 use types::Refusal;
 pub use types::Reply;
-use table::register;
+use types::Request;
 use types::rights;
-use table::board::Word;
 ghost use mathlib.Core.Path.{_≡_};
 ghost use Rattle.model.specs.Calls as calls;
 ghost use Rattle.types.specs.Views.{permissionNumber, requestOf};
 ghost use Rattle.slots.specs.Outcomes.{outcomeOf};
-ghost use Rattle.monitor.specs.Edits.{asked, InOpenSlot};
+ghost use Rattle.monitor.specs.Edits.{requestFrom, InOpenSlot};
 ghost use Rattle.table.specs.Board.{frameOf};
 
 // An edit in an open slot of a sound table, whose marks are at hand. Refusals 5, 6, 7, in this order, and then the stores.
@@ -83,7 +83,7 @@ pub fn edit(
     limit: u64,
 ) -> Outcome
     ensures { λ r. ⌜ outcomeOf r (now (words .exit))
-        ≡ calls.editSlot (frameOf f (now (words .entry))) (now (words .entry)) slots (asked slot (start .0) length (permissionNumber permission)) limit ⌝ }
+        ≡ calls.editSlot (frameOf f (now (words .entry))) (now (words .entry)) slots (requestFrom slot (start .0) length (permissionNumber permission)) limit ⌝ }
 {
     let mut used = no_pages();
     match admit(f, words, slots, &mut used) {

@@ -1,2 +1,2 @@
---   Kinds    what an edit asks as the model's request, and what the contracts say of its range and of pages
-pub mod Kinds
+--   EntryBounds   what the contracts say of the L1 entries that a range can meet
+pub mod EntryBounds

@@ -1,9 +1,9 @@
 // Whether an edit may have its range: the two tests that document 01 makes of it.
-use types::pages::PAGE_BYTES;
-use types::Request;
-use types::Frame;
 use table::board::PAGE_WORDS;
+use types::Frame;
+use types::Request;
 use types::bits::pow2;
+use types::pages::PAGE_BYTES;
 ghost use mathlib.Core.Path.{_≡_};
 ghost use mathlib.Core.Bool.{true, false, not, _&&_};
 ghost use lib.Dec.{eqb};
@@ -12,7 +12,7 @@ ghost use Rattle.model.specs.Calls.{badRange, meetsLent};
 ghost use Rattle.table.specs.Board.{frameOver};
 ghost use Rattle.types.specs.Views.{requestOf};
 
-// "Length 0, start or length not a multiple of 4,096, or start + length (no wrap) above 2^PAW."
+// "length 0, start or length not a multiple of 4,096, or start + length (no wrap) above 2^PAW"
 pub fn bad_range(f: Frame, n: usize, q: Request) -> bool
     requires { ⌜ boundsOk (frameOver f n) ≡ true ⌝ }
     ensures { λ r. ⌜ r ≡ badRange (frameOver f n) (requestOf q) ⌝ }
@@ -35,7 +35,7 @@ pub fn bad_range(f: Frame, n: usize, q: Request) -> bool
     end - start < size
 }
 
-// "Permission not none and the range meets the lent pages."
+// "permission not none and the range meets the lent pages"
 pub fn on_lent_pages(f: Frame, n: usize, q: Request) -> bool
     requires { ⌜ (boundsOk (frameOver f n) ≡ true) × (badRange (frameOver f n) (requestOf q) ≡ false) ⌝ }
     ensures { λ r. ⌜ r ≡ (not (eqb (q .permission) 0) && meetsLent (frameOver f n) (requestOf q)) ⌝ }

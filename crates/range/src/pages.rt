@@ -1,12 +1,12 @@
 // Where pages lie, seen from the range of an edit.
-use types::pages::PAGE_BYTES;
-use types::Place;
-use types::Request;
 use table::board::FIELDS;
 use table::board::PAGE_WORDS;
+use types::Place;
+use types::Request;
+use types::pages::PAGE_BYTES;
 ghost use Rattle.table.specs.Board.{BLOCKS, WORDS};
 ghost use Prim.Native.Nat.{_+_, _≤_, _<_, _^_};
-ghost use Rattle.range.specs.Kinds.{Below, Past};
+ghost use Rattle.range.specs.EntryBounds.{Below, Past};
 ghost use Rattle.types.specs.Views.{requestOf};
 ghost use Rattle.types.specs.Range.{Fair, Lies, Meets, Cut};
 

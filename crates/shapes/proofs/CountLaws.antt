@@ -27,7 +27,7 @@ use Rattle.theory.proofs.Ranges.{good-range, touched-inside}
 use Rattle.theory.specs.Rooted.{Good}
 use Rattle.shapes.specs.Blocks.{Ranged, blockIs, wholePages}
 use Rattle.shapes.proofs.Shape.{Shape, piece-in-block, piece-number, piece-of}
-use Rattle.shapes.proofs.InRange.{in-true, below-false, above-false, in-at, out-above}
+use Rattle.laws.proofs.InRange.{in-true, below-false, above-false, in-at, out-above}
 use Rattle.shapes.proofs.FormLaws.{known-form, form-inside}
 
 -- ---- sums of which one or two terms are not zero

@@ -3,14 +3,14 @@ use mathlib.Core.Path.{_≡_, sym, ap, _∙_}
 use mathlib.Core.Bool.{Bool, true, false}
 use mathlib.Core.List.{List}
 use Prim.Native.Nat.{ℕ, _+_, _*_, _-_, _/_, _%_, _^_, _≤_, _<_}
-use native.Mathlib.Nat.{zero-add, zero-div, zero-mul, mod-lt, div-add-mod'}
+use native.Mathlib.Nat.{zero-add, mod-lt, div-add-mod'}
 use native.Mathlib.Omega.{arith}
 use lib.Dec.{eqb}
 use borrow.Author.Tests.{eqb-true, eqb-false, eq-eqb}
 use Rattle.laws.proofs.Choices.{split}
 use Rattle.laws.proofs.Digits.{pack-cong}
 use Rattle.laws.proofs.Every.{every-all, every-in}
-use Rattle.laws.proofs.Splices.{spliced, splice-below, band-pack}
+use Rattle.laws.proofs.Splices.{spliced, band-pack}
 use Rattle.model.specs.Entry.{Entry, flat, pieces}
 use Rattle.model.specs.Forms.{Request, inRange, permOf, afterIn, allAre, wantPieces, wantTable, formIn}
 use Rattle.model.specs.Frame.{Frame}
@@ -19,9 +19,10 @@ use Rattle.model.specs.Numbers.{every, digit}
 use Rattle.model.specs.Walk.{found}
 use Rattle.theory.specs.Rooted.{Good}
 use Rattle.shapes.specs.Words.{flatInfo}
-use Rattle.shapes.specs.Blocks.{Cut, Even, Mixes}
+use Rattle.shapes.specs.Blocks.{Even, Mixes}
+use Rattle.types.specs.Range.{Cut}
 use Rattle.shapes.proofs.Shape.{Shape, piece-pos, pieces-pos, piece-in-block, piece-number, piece-parts, piece-lt, piece-of}
-use Rattle.shapes.proofs.InRange.{firstPage, pastPage, within, under, over, empty-false, end-first, end-past}
+use Rattle.laws.proofs.InRange.{firstPage, pastPage, within, under, over, empty-false, end-first, end-past}
 use Rattle.shapes.proofs.Fields.{ceil-gt, ceil-le, const-digit, every-fail, pack-const}
 use Rattle.shapes.proofs.FormLaws.{firstOf, isOne, form-table, known-form, info-pack}
 
@@ -152,9 +153,6 @@ pub even-flat : (F : Frame) (m : List ℕ) (p b : ℕ) → p < 4 → Even F m (f
 unfolding found permOf
 even-flat F m p b h = λ i k u lo hi. sym (const-digit 3 p (F .layout .pieces) i (omega arith) h u)
 
-pub even-pieces : (F : Frame) (sh : Shape (F .layout)) (m : List ℕ) (x b : ℕ) → Even F m (pieces x) b (x % 4 ^ F .layout .pieces)
+pub even-pieces : (F : Frame) (sh : Shape (F .layout)) (m : List ℕ) (x b : ℕ) → Even F m (pieces x) b x
 unfolding found permOf
-even-pieces F sh m x b =
-    λ i k u lo hi. let P : ℕ = 4 ^ F .layout .pieces in
-    let z : x % P ≡ spliced 4 (F .layout .pieces) x 0 = omega (arith, ap (λ (c : ℕ). c * P) (zero-div P) ∙ zero-mul P) in
-    ap (digit 4 x) (piece-of sh b i k u lo hi) ∙ sym (splice-below 4 (omega arith) (F .layout .pieces) x 0 i u) ∙ ap (λ (w : ℕ). digit 4 w i) (sym z)
+even-pieces F sh m x b = λ i k u lo hi. ap (digit 4 x) (piece-of sh b i k u lo hi)

@@ -1,6 +1,5 @@
 --   Shape       what the laws ask of a layout
 --   Fields      numbers by their digits
---   InRange     a page in the range, and one outside
 --   SpliceLaws  words spliced from the old one and the asked permission
 --   EntryLaws   the words of an L1 page, before the edit and after it
 --   FormLaws    the finished form of a block
@@ -14,7 +13,6 @@
 --   SlotLaws    slots one after another, and the words of a page to zero
 pub mod Shape
 pub mod Fields
-pub mod InRange
 pub mod SpliceLaws
 pub mod EntryLaws
 pub mod FormLaws

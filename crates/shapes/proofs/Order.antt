@@ -10,16 +10,16 @@ use Rattle.model.specs.Numbers.{joined}
 use Rattle.model.specs.Stores.{Store, apply}
 use Rattle.theory.proofs.Along.{apply-append, apply-none}
 use Rattle.laws.proofs.Lists.{joined-append}
-use Rattle.shapes.specs.Ahead.{Edit, listOf, leaves, Ahead, Turned}
+use Rattle.shapes.specs.Ahead.{AcceptedEdit, listOf, leaves, Ahead, Turned}
 
 -- what the first stores leave
-leaves-made : (e : Edit) (made rest : List Store) → listOf e ≡ made ++ rest → leaves e (length made) ≡ apply made (e .found)
+leaves-made : (e : AcceptedEdit) (made rest : List Store) → listOf e ≡ made ++ rest → leaves e (length made) ≡ apply made (e .found)
 unfolding stopped
 leaves-made e made rest o =
     ap (λ (l : List Store). apply (take (length made) l) (e .found)) o ∙ ap (λ (l : List Store). apply l (e .found)) (take-append-seam made rest)
 
 -- a call begins: its whole list is ahead. All else here goes from what is ahead to a part of it
-pub ahead-start : (e : Edit) → Ahead (e .found) (listOf e)
+pub ahead-start : (e : AcceptedEdit) → Ahead (e .found) (listOf e)
 unfolding stopped apply
 ahead-start e = record { edit = e; made = []; later = []; order = sym (append-nil (listOf e)); stands = refl }
 

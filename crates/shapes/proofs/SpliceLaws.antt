@@ -6,8 +6,8 @@ use Rattle.laws.proofs.Splices.{spliced, band-pack}
 use Rattle.model.specs.Forms.{Request}
 use Rattle.model.specs.Numbers.{pack}
 use Rattle.shapes.specs.Words.{ones, mixedAt}
-use Rattle.shapes.specs.Blocks.{Cut}
-use Rattle.shapes.proofs.InRange.{firstPage, pastPage, within, under, over}
+use Rattle.types.specs.Range.{Cut}
+use Rattle.laws.proofs.InRange.{firstPage, pastPage, within, under, over}
 use Rattle.shapes.proofs.Fields.{pow-times, const-digit, outside}
 
 -- a splice at a digit of c bits

@@ -11,7 +11,7 @@ use Rattle.model.specs.Calls.{storeList}
 use Rattle.model.specs.Demands.{Typed, Accepted, stopped}
 
 -- an edit that no refusal fits, and the memory that its call found
-pub record Edit : Type 0 where
+pub record AcceptedEdit : Type 0 where
   pub F : Frame
   pub slots : List Slot
   pub q : Request
@@ -20,15 +20,15 @@ pub record Edit : Type 0 where
   pub accepted : Accepted F slots q found
 
 -- its ordered list, and the bytes that limit k leaves
-abbrev pub listOf : Edit → List Store
+abbrev pub listOf : AcceptedEdit → List Store
 listOf e = storeList (e .F) (e .found) (e .slots) (e .q)
 
-abbrev pub leaves : Edit → ℕ → List ℕ
+abbrev pub leaves : AcceptedEdit → ℕ → List ℕ
 leaves e k = stopped (e .F) (e .slots) (e .q) k (e .found)
 
 -- m is what an edit's first stores left, and its list goes on with `next`
 pub record Ahead (m : List ℕ) (next : List Store) : Type 0 where
-  pub edit : Edit
+  pub edit : AcceptedEdit
   pub made : List Store
   pub later : List Store
   pub order : listOf edit ≡ made ++ (next ++ later)
@@ -36,7 +36,7 @@ pub record Ahead (m : List ℕ) (next : List Store) : Type 0 where
 
 -- one store of an edit: "for each k below the list's length, to turn the bytes that limit k leaves into those that limit k + 1 leaves"
 pub record Turned (before after : List ℕ) : Type 0 where
-  pub edit : Edit
+  pub edit : AcceptedEdit
   pub k : ℕ
   pub below : k < length (listOf edit)
   pub was : before ≡ leaves edit k

@@ -2,7 +2,7 @@
 use mathlib.Core.Path.{_≡_}
 use mathlib.Core.Bool.{Bool, true, false}
 use mathlib.Core.List.{List}
-use Prim.Native.Nat.{ℕ, _+_, _-_, _*_, _/_, _%_, _^_, _≤_, _<_}
+use Prim.Native.Nat.{ℕ, _+_, _*_, _/_, _%_, _^_, _≤_, _<_}
 use Rattle.model.specs.Numbers.{digit}
 use Rattle.model.specs.Layout.{Layout, blockPages, gibBlocks, piecePages}
 use Rattle.model.specs.Entry as entry
@@ -12,7 +12,6 @@ use Rattle.model.specs.Forms as model
 use Rattle.model.specs.Stores as stores
 use Rattle.model.specs.Calls as calls
 use Rattle.theory.specs.Rooted.{Rooted}
-pub use Rattle.types.specs.Range.{Cut}
 
 -- before the edit each page of block b, whose entry is e, is of the permission that info has for its piece
 abbrev pub Even : frame.Frame → List ℕ → entry.Entry → ℕ → ℕ → Type 0

@@ -10,6 +10,9 @@ use crate::page::zero_page;
 use sound::admit;
 use sound::no_pages;
 use sound::pick::free_pages;
+use table::board::Word;
+use table::lent;
+use table::register;
 use types::Admission;
 use types::Fence;
 use types::Frame;
@@ -17,9 +20,6 @@ use types::PageNumber;
 use types::Refusal;
 use types::Reply;
 use types::Sdid;
-use table::lent;
-use table::register;
-use table::board::Word;
 ghost use mathlib.Core.Path.{_≡_};
 ghost use mathlib.Core.Bool.{true};
 ghost use Prim.Native.Nat.{_<_};
@@ -93,7 +93,7 @@ fn open_admitted(
     open_at(f, words, slots, slot, sdid, free.first)
 }
 
-// "Opening an empty slot with an SDID takes the lowest free page, zeroes it and sets the register." Refusals 1, 3 here, and then as above.
+// "Opening an empty slot with an SDID takes the lowest free page, zeroes it and sets the register". Refusals 1, 3 here, and then as above.
 pub fn open(f: Frame, words: &mut [Word], slots: [Word; 8], slot: u64, sdid: Sdid) -> Outcome
     ensures { λ r. ⌜ outcomeOf r (now (words .exit)) ≡ calls.openSlot (frameOf f (now (words .entry))) (now (words .entry)) slots slot (sdid .0) ⌝ }
 {

@@ -1,17 +1,17 @@
 // What a call asks of the slot that it names, and which SDIDs are in use.
-use types::Sdid;
-use table::register;
 use table::board::Word;
+use table::register;
+use types::Sdid;
 ghost use mathlib.Core.Path.{_≡_};
 ghost use Rattle.model.specs.Numbers.{member};
 ghost use Rattle.slots.specs.Named as spec;
 
-// "Eight slots", and an SDID of six bits.
+// The "eight slots", and an SDID of six bits.
 const SLOTS: u64 = 8;
 
 const MAX_SDID: u64 = 63;
 
-// "Slot above 7; empty for close or edit."
+// "slot above 7; empty for close or edit"
 pub fn not_open(slots: [Word; 8], slot: u64) -> bool
     ensures { λ r. ⌜ r ≡ spec.notOpen slots slot ⌝ }
 {
@@ -22,7 +22,7 @@ pub fn not_open(slots: [Word; 8], slot: u64) -> bool
     slots[at] == 0
 }
 
-// "Slot above 7; .. in use for open."
+// "slot above 7; .. in use for open"
 pub fn not_empty(slots: [Word; 8], slot: u64) -> bool
     ensures { λ r. ⌜ r ≡ spec.notEmpty slots slot ⌝ }
 {
@@ -54,7 +54,7 @@ fn held(slots: [Word; 8], sdid: Sdid) -> bool
     false
 }
 
-// "SDID above 63 or held by another open slot."
+// "SDID above 63 or held by another open slot"
 pub fn bad_sdid(slots: [Word; 8], sdid: Sdid) -> bool
     ensures { λ r. ⌜ r ≡ spec.badSdid slots (sdid .0) ⌝ }
 {

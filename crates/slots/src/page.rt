@@ -1,7 +1,7 @@
 // A page of the lent memory, zeroed.
 use table::board::PAGE_WORDS;
-use table::store::store_word;
 use table::board::Word;
+use table::store::store_word;
 ghost use mathlib.Core.Path.{_≡_};
 ghost use Prim.Native.Nat.{_+_, _≤_};
 ghost use lib.ListN.{length};

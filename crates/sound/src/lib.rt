@@ -1,17 +1,17 @@
 // The whole-table check: one pass, each entry read once, with a mark for each page in use.
 pub mod pick;
 
+use table::board::PAGE_WORDS;
+use table::board::RESERVED;
+use table::board::Word;
+use table::lent;
+use table::register;
+use table::word;
 use types::Admission;
 use types::Entry;
 use types::Frame;
 use types::PageNumber;
 use types::Refusal;
-use table::lent;
-use table::board::PAGE_WORDS;
-use table::board::RESERVED;
-use table::board::Word;
-use table::register;
-use table::word;
 ghost use mathlib.Core.Path.{_≡_};
 ghost use mathlib.Core.Bool.{true, false};
 ghost use Prim.Native.Nat.{_+_, _≤_};
@@ -24,7 +24,7 @@ ghost use Rattle.types.specs.Views.{entryOf};
 ghost use Rattle.scan.specs.Admission.{Admits};
 ghost use Rattle.scan.specs.Scan.{answer, scanAll, scanRun, claimOf, linkStep, entryStep, wordStep, rootStep, slotStep, registerStep};
 
-// "All reserved bits in it are zero": the words are gathered by `|` and tested once.
+// "all reserved bits in it are zero": the words are gathered by `|` and tested once.
 fn clean(words: &[Word], at: usize) -> bool
     requires { ⌜ at + board .words ≤ length (now words) ⌝ }
     ensures { λ r. ⌜ r ≡ every (λ i. entry.clean board (getD (now (words .entry)) (at + i) 0)) (board .words) 0 ⌝ }
@@ -88,7 +88,7 @@ fn entries(f: Frame, words: &[Word], at: usize, count: usize, used: &mut [bool; 
     true
 }
 
-// A root: the page itself, then "the first 2^(PAW-25) entries"; "the rest of the page is never read".
+// A root: the page itself, then "The first 2^(PAW-25) entries of each root"; "the rest of the page is never read".
 fn root(f: Frame, words: &[Word], page: PageNumber, used: &mut [bool; 256]) -> bool
     requires { ⌜ boundsOk (frameOf f (now words)) ≡ true ⌝ }
     ensures { λ r. ⌜ answer r (now (used .exit)) ≡ rootStep (frameOf f (now (words .entry))) (now (words .entry)) (now (used .entry)) (page .0) ⌝ }

@@ -1,8 +1,8 @@
 // The free pages, from the marks alone.
-use types::Free;
-use types::Frame;
-use types::PageNumber;
 use table::board::PAGE_WORDS;
+use types::Frame;
+use types::Free;
+use types::PageNumber;
 ghost use mathlib.Core.Path.{_≡_};
 ghost use mathlib.Core.Bool.{true, false};
 ghost use Prim.Native.Nat.{ℕ, _≤_, _<_};

@@ -54,9 +54,12 @@ EACH = 0x1111_1111_1111_1111
 abbrev pub EACHPIECE : ℕ
 EACHPIECE = 0x5555_5555
 
--- a frame beside n lent words, and beside the words themselves
+-- a frame of this board: from its numbers; beside n lent words; and beside the words themselves
+abbrev pub boardFrame : ℕ → ℕ → ℕ → frame.Frame
+boardFrame paw first pages = record { layout = board; paw = paw; first = first; pages = pages }
+
 abbrev pub frameOver : Frame → ℕ → frame.Frame
-frameOver f n = record { layout = board; paw = f .paw; first = f .first .0; pages = n / board .words }
+frameOver f n = boardFrame (f .paw) (f .first .0) (n / board .words)
 
 abbrev pub frameOf : Frame → List ℕ → frame.Frame
 frameOf f m = frameOver f (length m)

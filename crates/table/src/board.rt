@@ -11,9 +11,6 @@ pub const PAGE_WORDS: usize = 512;
 
 pub const FIELDS: u64 = 16;
 
-// How many values a field has.
-pub const FIELD: u64 = 16;
-
 // "16 two-bit permissions, one per 2 MiB", and the TYPE that has them.
 pub const PIECES: u64 = 16;
 
@@ -30,13 +27,16 @@ pub const PIECE_LAST: u64 = PIECE_PAGES - 1;
 
 pub const PIECE_TYPE: u64 = 6;
 
+// "TYPE 4: INFO is the page number of an L1 page."
+pub const TABLE_TYPE: u64 = 4;
+
 // An L2 entry: where TYPE begins, bit 44, and the bound of the pieces' permissions, bit 32.
 pub const TYPE: u64 = 0x1000_0000_0000;
 
 pub const PIECE_INFO: u64 = 0x1_0000_0000;
 
 // Entries whose INFO is zero: one that names an L1 page, and one by pieces.
-pub const TABLE_ENTRY: u64 = 4 * TYPE;
+pub const TABLE_ENTRY: u64 = TABLE_TYPE * TYPE;
 
 pub const PIECE_ENTRY: u64 = PIECE_TYPE * TYPE;
 

@@ -1,9 +1,9 @@
 // The frame: its bounds, which pages are lent, and where their words stand.
+use crate::board::PAGE_WORDS;
+use crate::board::Word;
 use types::Frame;
 use types::PageNumber;
 use types::bits::pow2;
-use crate::board::PAGE_WORDS;
-use crate::board::Word;
 ghost use mathlib.Core.Path.{_≡_};
 ghost use mathlib.Core.Bool.{true};
 ghost use Prim.Native.Nat.{_+_, _-_, _≤_, _^_};
@@ -11,7 +11,7 @@ ghost use lib.ListN.{length};
 ghost use Rattle.model.specs.Frame as frame;
 ghost use Rattle.table.specs.Board.{board, BLOCKS, frameOf, frameOver};
 
-// "PAW (30 to 34), lent table memory of 2 to 256 whole pages."
+// "PAW (30 to 34), lent table memory of 2 to 256 whole pages"
 const MIN_PAW: u64 = 30;
 
 const MAX_PAW: u64 = 34;

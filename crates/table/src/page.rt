@@ -1,9 +1,9 @@
 // The parts of a page number that choose an L1 entry, its field and a piece. On RV64, of an address: "pn[0] 15:12, pn[1] 24:16".
-use types::PageNumber;
-use types::pages::BLOCK_PAGES;
 use crate::board::FIELDS;
 use crate::board::PAGE_WORDS;
 use crate::board::PIECE_PAGES;
+use types::PageNumber;
+use types::pages::BLOCK_PAGES;
 ghost use mathlib.Core.Path.{_≡_};
 ghost use Prim.Native.Nat.{_<_};
 ghost use Rattle.table.specs.Board.{board};

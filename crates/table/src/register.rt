@@ -1,6 +1,4 @@
 // The register mmpt: PPN, WPRI, SDID, MODE.
-use types::PageNumber;
-use types::Sdid;
 use crate::board::MODE;
 use crate::board::SDID;
 use crate::board::WPRI;
@@ -8,6 +6,8 @@ use crate::board::WPRI_VALUES;
 use crate::board::Word;
 use crate::board::narrow;
 use crate::board::wide;
+use types::PageNumber;
+use types::Sdid;
 ghost use mathlib.Core.Path.{_≡_};
 ghost use Prim.Native.Nat.{_<_, _^_};
 ghost use Rattle.table.specs.Board.{board};
@@ -37,7 +37,7 @@ pub fn mode(register: Word) -> u64
     wide(register) / MODE
 }
 
-// "MODE 1, that SDID and that page, WPRI zero."
+// "MODE 1, that SDID and that page, WPRI zero"
 pub fn new(sdid: Sdid, root: PageNumber) -> Word
     requires { ⌜ (sdid .0 < 64) × (root .0 < 2 ^ board .infoBits) ⌝ }
     ensures { λ r. ⌜ r ≡ registerOf board (sdid .0) (root .0) ⌝ }
@@ -45,14 +45,14 @@ pub fn new(sdid: Sdid, root: PageNumber) -> Word
     narrow(MODE + sdid.0 * SDID + root.0)
 }
 
-// "MODE 0 is Bare."
+// "MODE 0 is Bare"
 pub fn is_bare(register: Word) -> bool
     ensures { λ r. ⌜ r ≡ isBare board register ⌝ }
 {
     mode(register) == 0
 }
 
-// "Others are refused in the base. Bare with PPN or SDID not zero is refused."
+// "others are refused in the base. Bare with PPN or SDID not zero is refused."
 pub fn register_ok(register: Word) -> bool
     ensures { λ r. ⌜ r ≡ registerOk board register ⌝ }
 {

@@ -1,10 +1,10 @@
 // The L2 entries of a root.
-use types::Entry;
-use types::Frame;
-use types::PageNumber;
 use crate::board::Word;
 use crate::lent::page_at;
 use crate::word::decode;
+use types::Entry;
+use types::Frame;
+use types::PageNumber;
 ghost use mathlib.Core.Path.{_≡_};
 ghost use mathlib.Core.Bool.{true};
 ghost use Prim.Native.Nat.{_<_};

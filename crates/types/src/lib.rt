@@ -174,13 +174,13 @@ pub struct Budget {
 }
 
 // How the stores went: all were made, and what is left; or the limit cut them.
-pub struct Went {
+pub struct Progress {
     pub left: Budget,
     pub all: bool,
 }
 
 // How a row of entries went, and how many of them it was.
-pub struct Row {
+pub struct RowProgress {
     pub left: Budget,
     pub count: usize,
     pub all: bool,

@@ -4,7 +4,7 @@ use crate::Refusal;
 ghost use mathlib.Core.Path.{_≡_};
 ghost use Rattle.types.specs.Views.{causeNumber, refusalNumber};
 
-// "Fetch 1, load 5, store 7."
+// "fetch 1, load 5, store 7"
 pub fn of_cause(c: Cause) -> u64
     ensures { λ r. ⌜ r ≡ causeNumber c ⌝ }
 {

@@ -11,7 +11,7 @@ ghost use Rattle.model.specs.Walk as walk;
 ghost use Rattle.types.specs.Range.{Fair, Lies, Meets, Cut};
 ghost use Rattle.types.specs.Views.{requestOf};
 
-// "Whole pages of 4,096 bytes."
+// "whole pages of 4,096 bytes"
 pub const PAGE_BYTES: u64 = 4096;
 
 // "One entry speaks for 32 MiB, called a block": 8,192 pages.
@@ -19,7 +19,7 @@ pub const BLOCK_PAGES: u64 = 8192;
 
 pub const BLOCK_BYTES: u64 = BLOCK_PAGES * PAGE_BYTES;
 
-// "A GiB of one permission is 32 entries of that 1G type."
+// "a GiB of one permission is 32 entries of that 1G type"
 pub const GIB_BLOCKS: u64 = 32;
 
 pub const GIB_PAGES: u64 = GIB_BLOCKS * BLOCK_PAGES;

@@ -11,7 +11,7 @@ ghost use Rattle.model.specs.Access as access;
 ghost use Rattle.model.specs.Lookup as lookup;
 ghost use Rattle.types.specs.Views.{permissionNumber, needOf, accessOf, kindOf, privilegeOf, causeNumber};
 
-// "A small table of four permissions by three needs, kept as rows": none, rx, rw, rwx; read, write, execute.
+// "a small table of four permissions by three needs, kept as rows": none, rx, rw, rwx; read, write, execute.
 const MAY: [[bool; 3]; 4] = [
     [false, false, false],
     [true, false, true],
@@ -93,7 +93,7 @@ fn fault_of(a: Access) -> Cause
     }
 }
 
-// "The fault is that of the original access."
+// "The fault is that of the original access: fetch 1, load 5, store 7."
 pub fn cause_of(kind: Kind) -> Cause
     ensures { λ r. ⌜ causeNumber r ≡ access.causeOf (access.originalOf (kindOf kind)) ⌝ }
 {

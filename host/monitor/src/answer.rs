@@ -1,14 +1,33 @@
-//! What the monitor answers, and how the codes of `mpt.h` are read.
+//! What the monitor answers.
 
-use crate::types::{Address, Sdid};
-use std::fmt;
+use crate::types::{Address, Register, Sdid};
+use core::fmt;
 
-/// A lookup's answer.
+/// The answer of any call.
 #[derive(Clone, Copy, Debug, PartialEq, Eq)]
+#[must_use = "a call may be refused, may be cut, and may ask for a fence"]
 pub enum Answer {
+    Refused(Refusal),
+    /// A code of a privilege, a kind or a permission that names none.
+    OutsideKind,
+    /// Of a lookup.
+    Looked(Verdict),
+    /// Of an open: the domain's register, which its caller writes to the slot.
+    Opened(Register),
+    /// Of a close, whose caller empties the slot.
+    Closed(Fence),
+    Edited(Edited),
+    Sound,
+    /// A word that `mpt.h` does not name for the call: the library is of another interface.
+    Unknown(u64),
+}
+
+/// May the access be made?
+#[derive(Clone, Copy, Debug, PartialEq, Eq)]
+#[must_use = "the access may fault"]
+pub enum Verdict {
     Allowed,
     Fault(Cause),
-    Refused(Refusal),
 }
 
 /// The cause of a fault, by its number in the Privileged Architecture.
@@ -19,8 +38,40 @@ pub enum Cause {
     Store = 7,
 }
 
-/// Why the monitor said no, by its number in document 01.
+/// Why the monitor said no, by its number in document 01. Later versions may add numbers.
+///
+/// ```
+/// # use mpt_monitor::*;
+/// assert_eq!(Refusal::from_number(6), Some(Refusal::MeetsLent));
+/// assert_eq!(Refusal::from_number(0), None);
+/// ```
+///
+/// So a match needs an arm for those, and without its last line this one does not compile:
+///
+/// ```
+/// # use mpt_monitor::*;
+/// fn may_try_again(refusal: Refusal) -> bool {
+///     match refusal {
+///         Refusal::BadFrame | Refusal::BadRegister | Refusal::NotSound | Refusal::BadSlot => false,
+///         Refusal::BadRange | Refusal::MeetsLent | Refusal::BadSdid => false,
+///         Refusal::NoFreePage => true,
+///         _ => false,
+///     }
+/// }
+/// ```
+///
+/// ```compile_fail,E0004
+/// # use mpt_monitor::*;
+/// # fn may_try_again(refusal: Refusal) -> bool {
+/// #   match refusal {
+/// #       Refusal::BadFrame | Refusal::BadRegister | Refusal::NotSound | Refusal::BadSlot => false,
+/// #       Refusal::BadRange | Refusal::MeetsLent | Refusal::BadSdid => false,
+///         Refusal::NoFreePage => true,
+///     }
+/// # }
+/// ```
 #[derive(Clone, Copy, Debug, PartialEq, Eq)]
+#[non_exhaustive]
 pub enum Refusal {
     BadFrame = 1,
     BadRegister = 2,
@@ -51,14 +102,47 @@ pub struct Edited {
     pub fence: Fence,
 }
 
+impl Answer {
+    /// A refusal by its number.
+    #[inline]
+    pub fn refused(number: u64) -> Answer {
+        match Refusal::from_number(number) {
+            Some(refusal) => Answer::Refused(refusal),
+            None => Answer::Unknown(number),
+        }
+    }
+
+    /// A fault by the number of its cause.
+    #[inline]
+    pub fn fault(number: u64) -> Answer {
+        match Cause::from_number(number) {
+            Some(cause) => Answer::Looked(Verdict::Fault(cause)),
+            None => Answer::Unknown(number),
+        }
+    }
+}
+
 impl Cause {
+    pub const ALL: [Cause; 3] = [Cause::Fetch, Cause::Load, Cause::Store];
+
+    #[inline]
     pub fn number(self) -> u64 {
         self as u64
+    }
+
+    #[inline]
+    pub fn from_number(number: u64) -> Option<Cause> {
+        match number {
+            1 => Some(Cause::Fetch),
+            5 => Some(Cause::Load),
+            7 => Some(Cause::Store),
+            _ => None,
+        }
     }
 }
 
 impl Refusal {
-    const ALL: [Refusal; 8] = [
+    pub const ALL: [Refusal; 8] = [
         Refusal::BadFrame,
         Refusal::BadRegister,
         Refusal::NotSound,
@@ -69,12 +153,15 @@ impl Refusal {
         Refusal::BadSdid,
     ];
 
+    #[inline]
     pub fn number(self) -> u64 {
         self as u64
     }
 
-    fn from_number(number: u64) -> Option<Refusal> {
-        Refusal::ALL.into_iter().find(|refusal| refusal.number() == number)
+    #[inline]
+    pub fn from_number(number: u64) -> Option<Refusal> {
+        let nth = usize::try_from(number.wrapping_sub(1)).ok()?;
+        Refusal::ALL.get(nth).copied()
     }
 }
 
@@ -93,51 +180,5 @@ impl fmt::Display for Refusal {
     }
 }
 
+#[cfg(feature = "std")]
 impl std::error::Error for Refusal {}
-
-/// Reads the answer of a call that is done or refused.
-pub(crate) fn done_or_refused(code: u64) -> Result<(), Refusal> {
-    match Refusal::from_number(code) {
-        _ if code == 0 => Ok(()),
-        Some(refusal) => Err(refusal),
-        None => unknown(code),
-    }
-}
-
-/// Reads the answer of a lookup.
-pub(crate) fn looked(code: u64) -> Answer {
-    match code {
-        257 => Answer::Fault(Cause::Fetch),
-        261 => Answer::Fault(Cause::Load),
-        263 => Answer::Fault(Cause::Store),
-        _ => match done_or_refused(code) {
-            Ok(()) => Answer::Allowed,
-            Err(refusal) => Answer::Refused(refusal),
-        },
-    }
-}
-
-/// Reads a fence from its three words: kind, SDID, address.
-pub(crate) fn fence([kind, sdid, address]: [u64; 3]) -> Fence {
-    match kind {
-        0 => Fence::None,
-        1 => Fence::Domain(Sdid(sdid)),
-        2 => Fence::Address(Address(address), Sdid(sdid)),
-        _ => unknown(kind),
-    }
-}
-
-/// Reads an edit's five words.
-pub(crate) fn edited([stores, all, kind, sdid, address]: [u64; 5]) -> Edited {
-    let all = match all {
-        0 => false,
-        1 => true,
-        _ => unknown(all),
-    };
-    Edited { stores, all, fence: fence([kind, sdid, address]) }
-}
-
-/// The types here pass no argument outside its kind, so this is a library of another interface.
-fn unknown(code: u64) -> ! {
-    panic!("the library answered {code}, which mpt.h does not name for this call")
-}

@@ -1,25 +1,14 @@
 //! The calls, with types in place of numbers.
 
-use crate::answer::{done_or_refused, edited, fence, looked, Answer, Edited, Fence, Refusal};
+use crate::answer::{Answer, Edited, Fence, Refusal, Verdict};
+use crate::call::{Call, Edit, Reading};
 use crate::interface::Interface;
-use crate::table::Table;
-use crate::types::{Address, Kind, Permission, Privilege, Register, Sdid, Slot};
+use crate::table::Memory;
+use crate::types::{Address, Kind, Privilege, Register, Sdid, Slot};
 
-/// Makes the calls of document 01 on a [`Table`].
+/// Makes the calls of document 01 on memory that is lent to it.
 #[derive(Clone, Copy, Debug)]
 pub struct Monitor<I>(I);
-
-/// What an edit asks.
-#[derive(Clone, Copy, Debug, PartialEq, Eq)]
-pub struct Edit {
-    pub slot: Slot,
-    pub start: Address,
-    /// In bytes.
-    pub length: u64,
-    pub permission: Permission,
-    /// The most stores to make; 1,536 is always enough.
-    pub limit: u64,
-}
 
 #[cfg(feature = "proved")]
 impl Monitor<crate::Proved> {
@@ -35,58 +24,78 @@ impl<I: Interface> Monitor<I> {
         Monitor(interface)
     }
 
+    /// Any call with any numbers. After an open and a close, writes the slot.
+    #[inline]
+    pub fn call(&self, table: &mut impl Memory, call: Call) -> Answer {
+        let answer = match call {
+            Call::Reading(call) => self.0.read(table.view(), call),
+            Call::Writing(call) => self.0.write(table.view_mut(), call),
+        };
+        if let Some((slot, register)) = call.slot_after(answer) {
+            table.set_slot(slot, register);
+        }
+        answer
+    }
+
     /// May an access of this kind reach the address under this register?
+    #[inline]
     pub fn lookup(
         &self,
-        table: &Table,
+        table: &impl Memory,
         register: Register,
         privilege: Privilege,
         kind: Kind,
         address: Address,
-    ) -> Answer {
-        let Table { frame, words, .. } = table;
-        looked(self.0.lookup(frame.paw, frame.first.0, words, register.0, privilege.code(), kind.code(), address.0))
+    ) -> Result<Verdict, Refusal> {
+        let call = Reading::Lookup { register, privilege: privilege.code(), kind: kind.code(), address };
+        match self.0.read(table.view(), call) {
+            Answer::Looked(verdict) => Ok(verdict),
+            other => refused(other),
+        }
     }
 
-    /// Opens an empty slot for a domain; answers its register.
-    pub fn open(&self, table: &mut Table, slot: Slot, sdid: Sdid) -> Result<Register, Refusal> {
-        let Table { frame, words, slots } = table;
-        done_or_refused(self.0.open(frame.paw, frame.first.0, words, slots, slot.0, sdid.0))?;
-        Ok(table.register(slot).expect("a slot above 7 is refused"))
+    /// Opens an empty slot for a domain; answers its register, which then stands in the slot.
+    #[inline]
+    pub fn open(&self, table: &mut impl Memory, slot: Slot, sdid: Sdid) -> Result<Register, Refusal> {
+        match self.call(table, Call::open(slot, sdid)) {
+            Answer::Opened(register) => Ok(register),
+            other => refused(other),
+        }
     }
 
     /// Empties a slot. The fence comes before the SDID is used again.
-    pub fn close(&self, table: &mut Table, slot: Slot) -> Result<Fence, Refusal> {
-        let Table { frame, words, slots } = table;
-        let mut asked = [0; 3];
-        done_or_refused(self.0.close(frame.paw, frame.first.0, words, slots, slot.0, &mut asked))?;
-        Ok(fence(asked))
+    #[inline]
+    pub fn close(&self, table: &mut impl Memory, slot: Slot) -> Result<Fence, Refusal> {
+        match self.call(table, Call::close(slot)) {
+            Answer::Closed(fence) => Ok(fence),
+            other => refused(other),
+        }
     }
 
     /// Gives a range one permission, by the first stores of the list up to the limit.
-    pub fn edit(&self, table: &mut Table, edit: Edit) -> Result<Edited, Refusal> {
-        let Table { frame, words, slots } = table;
-        let Edit { slot, start, length, permission, limit } = edit;
-        let mut answer = [0; 5];
-        let code = self.0.edit(
-            frame.paw,
-            frame.first.0,
-            words,
-            slots,
-            slot.0,
-            start.0,
-            length,
-            permission.code(),
-            limit,
-            &mut answer,
-        );
-        done_or_refused(code)?;
-        Ok(edited(answer))
+    #[inline]
+    pub fn edit(&self, table: &mut impl Memory, edit: Edit) -> Result<Edited, Refusal> {
+        match self.call(table, Call::edit(edit)) {
+            Answer::Edited(edited) => Ok(edited),
+            other => refused(other),
+        }
     }
 
     /// Refused as an edit would be for a bad frame or a table that is not sound; else fine.
-    pub fn sound(&self, table: &Table) -> Result<(), Refusal> {
-        let Table { frame, words, slots } = table;
-        done_or_refused(self.0.sound(frame.paw, frame.first.0, words, slots))
+    #[inline]
+    pub fn sound(&self, table: &impl Memory) -> Result<(), Refusal> {
+        match self.0.read(table.view(), Reading::Sound) {
+            Answer::Sound => Ok(()),
+            other => refused(other),
+        }
+    }
+}
+
+/// The refusal in an answer that is no other. The types here pass no code that names nothing, so any
+/// other answer is that of a library of another interface.
+fn refused<T>(answer: Answer) -> Result<T, Refusal> {
+    match answer {
+        Answer::Refused(refusal) => Err(refusal),
+        other => panic!("the library answered {other:?}, which mpt.h does not name for this call"),
     }
 }

@@ -1,6 +1,11 @@
 //! The proved library, called by C's rules.
+// the build script says `mpt_version`; that it does can't be told to every compiler from 1.63 on
+#![allow(unknown_lints, unexpected_cfgs)]
 
+use crate::answer::Answer;
+use crate::call::{Reading, View, ViewMut, Writing};
 use crate::interface::Interface;
+use crate::word;
 
 /// As in `include/mpt.h`, which explains each argument and each part of the one word that is answered.
 mod c {
@@ -45,6 +50,8 @@ mod c {
             limit: u64,
         ) -> u64;
         pub fn mpt_sound(paw: u64, first: u64, words: *const u64, count: usize, slots: *const [u64; 8]) -> u64;
+        #[cfg(mpt_version)]
+        pub fn mpt_version() -> u64;
     }
 }
 
@@ -52,66 +59,53 @@ mod c {
 #[derive(Clone, Copy, Debug, Default)]
 pub struct Proved;
 
-/// Answers below this are refusals, and 255.
-const DONE: u64 = 256;
+/// The version of the interface that this crate is written for, as `MPT_VERSION` in `mpt.h`.
+pub const VERSION: u64 = 1 << 16;
 
-/// A fence out of an answer: its kind, its SDID, and its address, which is where the edit starts.
-fn fence(answer: u64, start: u64) -> [u64; 3] {
-    let kind = answer >> 10 & 3;
-    [kind, answer >> 12 & 63, if kind == 2 { start } else { 0 }]
+impl Proved {
+    /// The library's version; nothing for one that is older than its version call.
+    pub fn version(self) -> Option<u64> {
+        #[cfg(mpt_version)]
+        // SAFETY: a call without arguments that answers a constant.
+        return Some(unsafe { c::mpt_version() });
+        #[cfg(not(mpt_version))]
+        None
+    }
 }
 
 // SAFETY of all five: each pointer comes from a slice with its own length or from an array of eight,
 // the borrows say which may be written and that none overlap, and the library keeps none of them
 // after the call.
+//
+// Always inline: where the call is known, what is left of it is the library's call, its numbers in
+// registers.
 impl Interface for Proved {
-    fn lookup(&self, paw: u64, first: u64, words: &[u64], mmpt: u64, privilege: u64, kind: u64, address: u64) -> u64 {
-        unsafe { c::mpt_lookup(paw, first, words.as_ptr(), words.len(), mmpt, privilege, kind, address) }
-    }
-
-    fn open(&self, paw: u64, first: u64, words: &mut [u64], slots: &mut [u64; 8], slot: u64, sdid: u64) -> u64 {
-        let answer = unsafe { c::mpt_open(paw, first, words.as_mut_ptr(), words.len(), slots, slot, sdid) };
-        if answer < DONE {
-            return answer;
+    #[inline(always)]
+    fn read(&self, table: View<'_>, call: Reading) -> Answer {
+        let View { frame, words, slots } = table;
+        let (paw, first, at, count) = (frame.paw, frame.first.0, words.as_ptr(), words.len());
+        match call {
+            Reading::Lookup { register, privilege, kind, address } => {
+                word::looked(unsafe { c::mpt_lookup(paw, first, at, count, register.0, privilege, kind, address.0) })
+            }
+            Reading::Close { slot } => word::closed(unsafe { c::mpt_close(paw, first, at, count, slots, slot.0) }),
+            Reading::Sound => word::sound(unsafe { c::mpt_sound(paw, first, at, count, slots) }),
         }
-        slots[slot as usize] = answer;
-        0
     }
 
-    fn close(&self, paw: u64, first: u64, words: &[u64], slots: &mut [u64; 8], slot: u64, asked: &mut [u64; 3]) -> u64 {
-        let answer = unsafe { c::mpt_close(paw, first, words.as_ptr(), words.len(), slots, slot) };
-        if answer < DONE {
-            return answer;
+    #[inline(always)]
+    fn write(&self, table: ViewMut<'_>, call: Writing) -> Answer {
+        let ViewMut { frame, words, slots } = table;
+        let (paw, first, at, count) = (frame.paw, frame.first.0, words.as_mut_ptr(), words.len());
+        match call {
+            Writing::Open { slot, sdid } => {
+                word::opened(unsafe { c::mpt_open(paw, first, at, count, slots, slot.0, sdid.0) })
+            }
+            Writing::Edit { slot, start, length, permission, limit } => {
+                let word =
+                    unsafe { c::mpt_edit(paw, first, at, count, slots, slot.0, start.0, length, permission, limit) };
+                word::edited(word, start)
+            }
         }
-        slots[slot as usize] = 0;
-        *asked = fence(answer, 0);
-        0
-    }
-
-    fn edit(
-        &self,
-        paw: u64,
-        first: u64,
-        words: &mut [u64],
-        slots: &[u64; 8],
-        slot: u64,
-        start: u64,
-        length: u64,
-        permission: u64,
-        limit: u64,
-        made: &mut [u64; 5],
-    ) -> u64 {
-        let (at, count) = (words.as_mut_ptr(), words.len());
-        let answer = unsafe { c::mpt_edit(paw, first, at, count, slots, slot, start, length, permission, limit) };
-        if answer < DONE {
-            return answer;
-        }
-        let [kind, sdid, address] = fence(answer, start);
-        *made = [answer >> 18 & 0xFF_FFFF_FFFF, answer >> 9 & 1, kind, sdid, address];
-        0
-    }
-
-    fn sound(&self, paw: u64, first: u64, words: &[u64], slots: &[u64; 8]) -> u64 {
-        unsafe { c::mpt_sound(paw, first, words.as_ptr(), words.len(), slots) }
     }
 }

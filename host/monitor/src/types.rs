@@ -1,6 +1,6 @@
 //! Numbers that must not be mixed, and the small sets that document 01 names.
 
-use std::fmt;
+use core::fmt;
 
 /// A physical address.
 #[derive(Clone, Copy, Debug, PartialEq, Eq, PartialOrd, Ord, Hash)]
@@ -19,11 +19,24 @@ pub struct Sdid(pub u64);
 pub struct Slot(pub u64);
 
 /// An mmpt value: PPN 43:0, WPRI 53:44, SDID 59:54, MODE 63:60.
+///
+/// ```
+/// # use mpt_monitor::*;
+/// let register = Register(0x1140_0000_0008_0000);
+/// assert_eq!((register.mode(), register.sdid(), register.root()), (1, Sdid(5), PageNumber(0x80000)));
+/// ```
 #[derive(Clone, Copy, Debug, PartialEq, Eq, Hash)]
 pub struct Register(pub u64);
 
 impl PageNumber {
     /// The address at which the page begins, if it is below 2^64.
+    ///
+    /// ```
+    /// # use mpt_monitor::*;
+    /// assert_eq!(PageNumber(0x80000).address(), Some(Address(0x8000_0000)));
+    /// assert_eq!(Address(0x8000_0FFF).page(), PageNumber(0x80000));
+    /// assert_eq!(PageNumber(1 << 52).address(), None);
+    /// ```
     pub fn address(self) -> Option<Address> {
         self.0.checked_mul(4096).map(Address)
     }
@@ -37,6 +50,9 @@ impl Address {
 }
 
 impl Register {
+    /// What an empty slot holds.
+    pub const EMPTY: Register = Register(0);
+
     /// A slot that holds zero is empty.
     pub fn is_empty(self) -> bool {
         self.0 == 0

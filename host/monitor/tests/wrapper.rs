@@ -1,110 +1,125 @@
-//! The wrapper reads each code and each word of an answer as mpt.h says, and passes each argument
-//! in its place.
+//! The wrapper reads each code and each word of an answer as mpt.h says, passes each argument in its
+//! place, and writes the slots as mpt.h asks its callers to.
 
 use mpt_monitor::*;
 use std::cell::RefCell;
 
-/// Answers what it is told to, and keeps the numbers it was given.
+/// Answers what it is told to, and keeps what it was asked.
 struct Canned {
-    code: u64,
-    answer: [u64; 5],
-    given: RefCell<Vec<u64>>,
-}
-
-impl Canned {
-    fn keep(&self, numbers: &[u64]) -> u64 {
-        self.given.borrow_mut().extend_from_slice(numbers);
-        self.code
-    }
+    answer: Answer,
+    asked: RefCell<Option<(Frame, usize, Call)>>,
 }
 
 impl Interface for Canned {
-    fn lookup(&self, paw: u64, first: u64, words: &[u64], mmpt: u64, privilege: u64, kind: u64, address: u64) -> u64 {
-        self.keep(&[paw, first, words.len() as u64, mmpt, privilege, kind, address])
+    fn read(&self, table: View<'_>, call: Reading) -> Answer {
+        *self.asked.borrow_mut() = Some((table.frame, table.words.len(), Call::Reading(call)));
+        self.answer
     }
 
-    fn open(&self, paw: u64, first: u64, words: &mut [u64], slots: &mut [u64; 8], slot: u64, sdid: u64) -> u64 {
-        slots[1] = 0x77;
-        self.keep(&[paw, first, words.len() as u64, slots.len() as u64, slot, sdid])
-    }
-
-    fn close(&self, paw: u64, first: u64, words: &[u64], slots: &mut [u64; 8], slot: u64, fence: &mut [u64; 3]) -> u64 {
-        fence.copy_from_slice(&self.answer[2..]);
-        self.keep(&[paw, first, words.len() as u64, slots.len() as u64, slot])
-    }
-
-    fn edit(
-        &self,
-        paw: u64,
-        first: u64,
-        words: &mut [u64],
-        slots: &[u64; 8],
-        slot: u64,
-        start: u64,
-        length: u64,
-        permission: u64,
-        limit: u64,
-        answer: &mut [u64; 5],
-    ) -> u64 {
-        answer.copy_from_slice(&self.answer);
-        self.keep(&[paw, first, words.len() as u64, slots.len() as u64, slot, start, length, permission, limit])
-    }
-
-    fn sound(&self, paw: u64, first: u64, words: &[u64], slots: &[u64; 8]) -> u64 {
-        self.keep(&[paw, first, words.len() as u64, slots.len() as u64])
+    fn write(&self, table: ViewMut<'_>, call: Writing) -> Answer {
+        *self.asked.borrow_mut() = Some((table.frame, table.words.len(), Call::Writing(call)));
+        self.answer
     }
 }
 
-fn canned(code: u64, answer: [u64; 5]) -> Canned {
-    Canned { code, answer, given: RefCell::default() }
+fn canned(answer: Answer) -> Canned {
+    Canned { answer, asked: RefCell::default() }
 }
 
-fn table() -> Table {
-    Table::new(Frame { paw: 31, first: PageNumber(9) }, 3)
-}
-
+const FRAME: Frame = Frame { paw: 31, first: PageNumber(9) };
 const EDIT: Edit = Edit { slot: Slot(4), start: Address(5), length: 6, permission: Permission::Rwx, limit: 8 };
 
 #[test]
 fn arguments_keep_their_places() {
-    let program = canned(0, [0, 1, 0, 0, 0]);
-    let monitor = Monitor::over(&program);
-    let given = || program.given.take();
-    let table = &mut table();
-    let looked = monitor.lookup(table, Register(70), Privilege::Machine, Kind::Update(Access::Load), Address(71));
-    assert_eq!((looked, given()), (Answer::Allowed, vec![31, 9, 1536, 70, 3, 7, 71]));
-    let opened = monitor.open(table, Slot(1), Sdid(73));
-    assert_eq!((opened, given()), (Ok(Register(0x77)), vec![31, 9, 1536, 8, 1, 73]));
-    assert_eq!((monitor.close(table, Slot(74)), given()), (Ok(Fence::None), vec![31, 9, 1536, 8, 74]));
-    let edited = Edited { stores: 0, all: true, fence: Fence::None };
-    assert_eq!((monitor.edit(table, EDIT), given()), (Ok(edited), vec![31, 9, 1536, 8, 4, 5, 6, 3, 8]));
-    assert_eq!((monitor.sound(table), given()), (Ok(()), vec![31, 9, 1536, 8]));
-}
-
-#[test]
-fn answers_are_read_as_the_header_says() {
-    let edit = |code, answer| Monitor::over(&canned(code, answer)).edit(&mut table(), EDIT);
-    let domain = Edited { stores: 544, all: true, fence: Fence::Domain(Sdid(5)) };
-    assert_eq!(edit(0, [544, 1, 1, 5, 0]), Ok(domain));
-    let address = Edited { stores: 1, all: false, fence: Fence::Address(Address(0x40003000), Sdid(0)) };
-    assert_eq!(edit(0, [1, 0, 2, 0, 0x40003000]), Ok(address));
-    for number in 1..=8 {
-        assert_eq!(edit(number, [9; 5]).map_err(|refusal| refusal.number()), Err(number));
-    }
-    let look = |code| {
-        let kind = Kind::Itself(Access::Fetch);
-        Monitor::over(&canned(code, [0; 5])).lookup(&table(), Register(0), Privilege::User, kind, Address(0))
+    let table = &mut Table::new(FRAME, 3);
+    let mut asked = |answer, make: &dyn Fn(&Monitor<&Canned>, &mut Table)| {
+        let program = canned(answer);
+        make(&Monitor::over(&program), table);
+        let asked = program.asked.take().unwrap();
+        assert_eq!((asked.0, asked.1), (FRAME, 1536));
+        asked.2
     };
-    assert_eq!(look(2), Answer::Refused(Refusal::BadRegister));
-    for (code, cause) in [(257, 1), (261, 5), (263, 7)] {
-        assert!(matches!(look(code), Answer::Fault(fault) if fault.number() == cause));
-    }
+    let lookup = asked(Answer::Looked(Verdict::Allowed), &|monitor, table| {
+        let (kind, address) = (Kind::Update(Access::Load), Address(71));
+        let looked = monitor.lookup(table, Register(70), Privilege::Machine, kind, address);
+        assert_eq!(looked, Ok(Verdict::Allowed));
+    });
+    let wanted = Reading::Lookup { register: Register(70), privilege: 3, kind: 7, address: Address(71) };
+    assert_eq!(lookup, Call::Reading(wanted));
+    let open = asked(Answer::Opened(Register(0x77)), &|monitor, table| {
+        assert_eq!(monitor.open(table, Slot(1), Sdid(73)), Ok(Register(0x77)));
+    });
+    assert_eq!(open, Call::Writing(Writing::Open { slot: Slot(1), sdid: Sdid(73) }));
+    let close = asked(Answer::Closed(Fence::None), &|monitor, table| {
+        assert_eq!(monitor.close(table, Slot(74)), Ok(Fence::None));
+    });
+    assert_eq!(close, Call::Reading(Reading::Close { slot: Slot(74) }));
+    let edited = Edited { stores: 0, all: true, fence: Fence::None };
+    let edit = asked(Answer::Edited(edited), &|monitor, table| assert_eq!(monitor.edit(table, EDIT), Ok(edited)));
+    let wanted = Writing::Edit { slot: Slot(4), start: Address(5), length: 6, permission: 3, limit: 8 };
+    assert_eq!(edit, Call::Writing(wanted));
+    let sound = asked(Answer::Sound, &|monitor, table| assert_eq!(monitor.sound(table), Ok(())));
+    assert_eq!(sound, Call::Reading(Reading::Sound));
+}
+
+/// After an open the register stands in its slot, after a close zero, and a refusal changes none.
+#[test]
+fn slots_are_written_as_the_header_asks() {
+    let (mut words, mut slots) = ([0; 1024], [1, 2, 3, 4, 5, 6, 7, 8]);
+    let table = &mut Lent::new(FRAME, &mut words, &mut slots);
+    let open = |answer| Monitor::over(canned(answer)).open(&mut *table, Slot(2), Sdid(0));
+    let (register, refusal) = (Register(0x77), Refusal::BadSlot);
+    let mut opening = open;
+    assert_eq!(opening(Answer::Opened(register)), Ok(register));
+    assert_eq!(opening(Answer::Refused(refusal)), Err(refusal));
+    assert_eq!(table.register(Slot(2)), Some(register));
+    let close = |table: &mut Lent, answer| Monitor::over(canned(answer)).close(table, Slot(7));
+    assert_eq!(close(table, Answer::Refused(refusal)), Err(refusal));
+    assert_eq!(table.view().slots, &[1, 2, 0x77, 4, 5, 6, 7, 8]);
+    assert_eq!(close(table, Answer::Closed(Fence::Domain(Sdid(0)))), Ok(Fence::Domain(Sdid(0))));
+    assert_eq!(slots, [1, 2, 0x77, 4, 5, 6, 7, 0]);
 }
 
 #[test]
-#[should_panic(expected = "answered 255")]
+fn words_are_read_as_the_header_says() {
+    let edited = |stores, all, fence| Answer::Edited(Edited { stores, all, fence });
+    let start = Address(0x4000_3000);
+    assert_eq!(word::edited(0x880_5700, start), edited(544, true, Fence::Domain(Sdid(5))));
+    assert_eq!(word::edited(0x4_0900, start), edited(1, false, Fence::Address(start, Sdid(0))));
+    assert_eq!(word::edited(0x300, start), edited(0, true, Fence::None));
+    assert_eq!(word::edited(0x6_00FF_F500, start), edited(0x1803F, false, Fence::Domain(Sdid(63))));
+    assert_eq!(word::edited(0xD00, start), Answer::Unknown(0xD00));
+    assert_eq!(word::closed(0x5500), Answer::Closed(Fence::Domain(Sdid(5))));
+    assert_eq!(word::opened(0x1140_0000_0008_0000), Answer::Opened(Register(0x1140_0000_0008_0000)));
+    assert_eq!(word::looked(0), Answer::Looked(Verdict::Allowed));
+    for (word, cause) in [(257, Cause::Fetch), (261, Cause::Load), (263, Cause::Store)] {
+        assert_eq!(word::looked(word), Answer::Looked(Verdict::Fault(cause)));
+    }
+    assert_eq!(word::sound(0), Answer::Sound);
+}
+
+#[test]
+fn what_no_call_has_done_is_read_alike_by_all() {
+    let edit = |word| word::edited(word, Address(0));
+    for read in [word::looked, word::opened, word::closed, word::sound, edit] {
+        for (word, refusal) in (1..).zip(Refusal::ALL) {
+            assert_eq!(read(word), Answer::Refused(refusal));
+            assert_eq!(refusal.number(), word);
+        }
+        assert_eq!(read(255), Answer::OutsideKind);
+        assert_eq!(read(9), Answer::Unknown(9));
+    }
+    for read in [word::opened, word::closed, edit] {
+        assert_eq!(read(0), Answer::Unknown(0));
+    }
+    assert_eq!((word::looked(256), word::looked(264)), (Answer::Unknown(0), Answer::Unknown(8)));
+    assert_eq!(word::sound(256), Answer::Unknown(256));
+}
+
+#[test]
+#[should_panic(expected = "answered OutsideKind")]
 fn a_code_that_no_call_here_can_have_is_no_answer() {
-    let _ = Monitor::over(&canned(255, [0; 5])).edit(&mut table(), EDIT);
+    let _ = Monitor::over(canned(Answer::OutsideKind)).edit(&mut Table::new(FRAME, 3), EDIT);
 }
 
 #[test]
@@ -114,6 +129,20 @@ fn codes_of_kinds_follow_the_header() {
     assert_eq!(Kind::PageTableRead(Access::Store).code(), 5);
     assert_eq!(Permission::ALL.map(Permission::code), [0, 1, 2, 3]);
     assert_eq!(Permission::Rx.name(), "rx");
+}
+
+/// A library that has a version call is of the version that this crate is written for, and of the header's.
+#[cfg(feature = "proved")]
+#[test]
+fn the_version_is_the_headers() {
+    let header = include_str!("../../include/mpt.h");
+    let number = |name: &str| -> u64 {
+        let line = header.lines().find_map(|line| line.strip_prefix(name)).unwrap();
+        line.trim().parse().unwrap()
+    };
+    let version = number("#define MPT_VERSION_MAJOR ") << 16 | number("#define MPT_VERSION_MINOR ");
+    assert_eq!(VERSION, version);
+    assert!(matches!(Proved.version(), None | Some(VERSION)), "{:?}", Proved.version());
 }
 
 /// Case C and E of document 01 through the proved library.
@@ -130,8 +159,9 @@ fn the_proved_library_answers() {
     assert_eq!(table.words()[32], 0x0000_4000_0008_0001);
     let register = table.register(Slot(0)).unwrap();
     let look = |kind, at| monitor.lookup(&table, register, Privilege::Supervisor, kind, Address(at));
-    assert_eq!(look(Kind::Itself(Access::Store), 0x4000_0FFF), Answer::Allowed);
-    assert_eq!(look(Kind::PageTableRead(Access::Store), 0x4000_1000), Answer::Fault(Cause::Store));
+    assert_eq!(look(Kind::Itself(Access::Store), 0x4000_0FFF), Ok(Verdict::Allowed));
+    assert_eq!(look(Kind::PageTableRead(Access::Store), 0x4000_1000), Ok(Verdict::Fault(Cause::Store)));
     assert_eq!(monitor.sound(&table), Ok(()));
     assert_eq!(monitor.close(&mut table, Slot(0)), Ok(Fence::Domain(Sdid(5))));
+    assert_eq!(table.slots(), &[0; SLOTS]);
 }

@@ -1,8 +1,10 @@
 //! The language of `mpt run`: one command a line.
 
-use mpt_monitor::{Address, Edit, Kind, PageNumber, Permission, Privilege, Register, Sdid, Slot};
+pub use crate::fields::number;
+
+use crate::fields::Fields;
+use mpt_monitor::{Address, Call, Edit, Kind, PageNumber, Permission, Privilege, Register, Sdid, Slot};
 use std::fmt;
-use std::str::SplitWhitespace;
 
 #[derive(Clone, Debug, PartialEq, Eq)]
 pub enum Command {
@@ -15,6 +17,7 @@ pub enum Command {
     Close { slot: Slot },
     Edit(Edit),
     Lookup { register: Register, privilege: Privilege, kind: Kind, address: Address },
+    Sound,
     Free,
     Sum,
     Save(String),
@@ -27,7 +30,7 @@ pub const MOST_PAGES: usize = 16384;
 pub const MOST_EXTRA: usize = 511;
 
 /// Each command with its form.
-const FORMS: [(&str, &str); 13] = [
+const FORMS: [(&str, &str); 14] = [
     ("frame", "frame PAW FIRST PAGES [EXTRA]"),
     ("poke", "poke INDEX WORD"),
     ("slot", "slot INDEX REGISTER"),
@@ -37,11 +40,28 @@ const FORMS: [(&str, &str); 13] = [
     ("close", "close SLOT"),
     ("edit", "edit SLOT START LENGTH none|rx|rw|rwx LIMIT"),
     ("lookup", "lookup REGISTER m|s|u KIND ADDRESS"),
+    ("sound", "sound"),
     ("free", "free"),
     ("sum", "sum"),
     ("save", "save FILE"),
     ("load", "load FILE"),
 ];
+
+impl Command {
+    /// The call that a command makes, if it makes one.
+    pub fn call(&self) -> Option<Call> {
+        match *self {
+            Command::Open { slot, sdid } => Some(Call::open(slot, sdid)),
+            Command::Close { slot } => Some(Call::close(slot)),
+            Command::Edit(edit) => Some(Call::edit(edit)),
+            Command::Lookup { register, privilege, kind, address } => {
+                Some(Call::lookup(register, privilege, kind, address))
+            }
+            Command::Sound => Some(Call::sound()),
+            _ => None,
+        }
+    }
+}
 
 /// The names of the kinds, in the order of their codes.
 pub const KINDS: [&str; 9] =
@@ -50,13 +70,15 @@ pub const KINDS: [&str; 9] =
 /// Reads a line: nothing if it is blank or a comment.
 pub fn parse(line: &str) -> Result<Option<Command>, String> {
     let line = without_comment(line).trim();
-    let Some(name) = line.split_whitespace().next() else { return Ok(None) };
-    let Some((_, form)) = FORMS.iter().find(|(known, _)| *known == name) else {
-        let known: Vec<&str> = FORMS.iter().map(|(known, _)| *known).collect();
-        return Err(format!("no command `{name}`; the commands are {}", known.join(", ")));
+    let name = match line.split_whitespace().next() {
+        Some(name) => name,
+        None => return Ok(None),
     };
-    let mut fields = Fields { form, rest: line.split_whitespace() };
-    fields.rest.next();
+    let (_, form) = FORMS.iter().find(|(known, _)| *known == name).ok_or_else(|| {
+        let known: Vec<&str> = FORMS.iter().map(|(known, _)| *known).collect();
+        format!("no command `{name}`; the commands are {}", known.join(", "))
+    })?;
+    let mut fields = Fields::after_name(form, line);
     let command = match name {
         "save" | "load" => file_command(name, line[name.len()..].trim(), form)?,
         _ => {
@@ -70,7 +92,7 @@ pub fn parse(line: &str) -> Result<Option<Command>, String> {
 
 /// A comment runs from a `#` that begins a word to the end of the line.
 fn without_comment(line: &str) -> &str {
-    let begins = |(at, _): &(usize, &str)| line[..*at].chars().next_back().is_none_or(char::is_whitespace);
+    let begins = |(at, _): &(usize, &str)| line[..*at].chars().next_back().map_or(true, char::is_whitespace);
     line.match_indices('#').find(begins).map_or(line, |(at, _)| &line[..at])
 }
 
@@ -98,6 +120,7 @@ fn command(name: &str, fields: &mut Fields) -> Result<Command, String> {
         "close" => Command::Close { slot: Slot(fields.number("SLOT")?) },
         "edit" => Command::Edit(edit(fields)?),
         "lookup" => lookup(fields)?,
+        "sound" => Command::Sound,
         "free" => Command::Free,
         _ => Command::Sum,
     })
@@ -124,70 +147,6 @@ fn lookup(fields: &mut Fields) -> Result<Command, String> {
     })
 }
 
-/// The words of a line after its first.
-struct Fields<'a> {
-    form: &'a str,
-    rest: SplitWhitespace<'a>,
-}
-
-impl<'a> Fields<'a> {
-    fn next(&mut self, name: &str) -> Result<&'a str, String> {
-        self.rest.next().ok_or_else(|| format!("{name} is missing; the form is `{}`", self.form))
-    }
-
-    fn number(&mut self, name: &str) -> Result<u64, String> {
-        let text = self.next(name)?;
-        number(text).map_err(|why| format!("{name} `{text}` {why}"))
-    }
-
-    fn index(&mut self, name: &str) -> Result<usize, String> {
-        self.small(name, usize::MAX)
-    }
-
-    fn small(&mut self, name: &str, most: usize) -> Result<usize, String> {
-        let number = self.number(name)?;
-        match usize::try_from(number) {
-            Ok(small) if small <= most => Ok(small),
-            _ => Err(format!("{name} {number} is too large; at most {most}")),
-        }
-    }
-
-    fn small_or(&mut self, name: &str, most: usize, missing: usize) -> Result<usize, String> {
-        if self.rest.clone().next().is_none() {
-            Ok(missing)
-        } else {
-            self.small(name, most)
-        }
-    }
-
-    fn one_of<T: Copy>(&mut self, name: &str, known: &[(&str, T)]) -> Result<T, String> {
-        let text = self.next(name)?;
-        known.iter().find(|(word, _)| *word == text).map(|&(_, value)| value).ok_or_else(|| {
-            let words: Vec<&str> = known.iter().map(|(word, _)| *word).collect();
-            format!("{name} `{text}` is not known; it is one of {}", words.join(", "))
-        })
-    }
-
-    fn end(&mut self) -> Result<(), String> {
-        match self.rest.next() {
-            None => Ok(()),
-            Some(text) => Err(format!("`{text}` is too much; the form is `{}`", self.form)),
-        }
-    }
-}
-
-/// A number, decimal or 0x and hex, up to 2^64 - 1.
-pub fn number(text: &str) -> Result<u64, String> {
-    let (digits, radix) = match text.strip_prefix("0x") {
-        Some(digits) => (digits, 16),
-        None => (text, 10),
-    };
-    if digits.is_empty() || !digits.chars().all(|digit| digit.is_digit(radix)) {
-        return Err("is no number; write decimal digits, or 0x and hex digits".to_string());
-    }
-    u64::from_str_radix(digits, radix).map_err(|_| "is above 2^64 - 1".to_string())
-}
-
 /// A command as a line that can be read again.
 impl fmt::Display for Command {
     fn fmt(&self, f: &mut fmt::Formatter) -> fmt::Result {
@@ -207,6 +166,7 @@ impl fmt::Display for Command {
                 let (privilege, kind) = (privilege_letter(*privilege), KINDS[kind.code() as usize]);
                 write!(f, "lookup {:#x} {privilege} {kind} {:#x}", register.0, address.0)
             }
+            Command::Sound => f.write_str("sound"),
             Command::Free => f.write_str("free"),
             Command::Sum => f.write_str("sum"),
             Command::Save(file) => write!(f, "save {file}"),
@@ -228,16 +188,6 @@ fn privilege_letter(privilege: Privilege) -> char {
 mod tests {
     use super::*;
     use mpt_monitor::Access;
-
-    #[test]
-    fn numbers() {
-        assert_eq!(number("18446744073709551615"), Ok(u64::MAX));
-        assert_eq!(number("0xFFFFffffFFFFffff"), Ok(u64::MAX));
-        assert_eq!(number("007"), Ok(7));
-        for bad in ["", "0x", "+5", "-1", "0x+5", "1_000", "12a", "18446744073709551616", "0x10000000000000000"] {
-            assert!(number(bad).is_err(), "{bad}");
-        }
-    }
 
     #[test]
     fn lines() {
@@ -265,6 +215,7 @@ mod tests {
             "edit 0 0x1000 0x2000 rwx 0",
             "lookup 0x5 s update-fetch 0x6",
             "lookup 0x5 m walk-load 0x6",
+            "sound",
             "save a b",
         ];
         for line in lines {

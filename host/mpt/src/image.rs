@@ -12,9 +12,8 @@ pub fn to_bytes(table: &Table) -> Vec<u8> {
 
 pub fn from_bytes(frame: Frame, bytes: &[u8]) -> Result<Table, String> {
     let words = bytes.len().checked_sub(SLOT_BYTES).filter(|rest| rest % 8 == 0).map(|rest| rest / 8);
-    let Some(count) = words else {
-        return Err(format!("{} bytes are no image; an image has 64 and then 8 for each word", bytes.len()));
-    };
+    let no_image = || format!("{} bytes are no image; an image has 64 and then 8 for each word", bytes.len());
+    let count = words.ok_or_else(no_image)?;
     let most = MOST_PAGES * PAGE_WORDS + MOST_EXTRA;
     if count > most {
         return Err(format!("{count} words are too many; at most {most}"));

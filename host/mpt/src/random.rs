@@ -29,6 +29,15 @@ impl Random {
         self.below(100) < times
     }
 
+    /// Below `bound`, which is not 0; often the first or the last.
+    pub fn edge(&mut self, bound: u64) -> u64 {
+        match self.below(4) {
+            0 => 0,
+            1 => bound - 1,
+            _ => self.below(bound),
+        }
+    }
+
     pub fn pick<T: Copy>(&mut self, from: &[T]) -> T {
         from[self.below(from.len() as u64) as usize]
     }

@@ -1,9 +1,10 @@
 //! The state of `mpt run`: one table for each program that runs, kept side by side.
 
+use crate::answer::{Difference, Error, Free, Outcome, Reply};
 use crate::command::Command;
 use crate::image;
 use crate::programs::Program;
-use mpt_monitor::{Answer, Edited, Fence, Frame, Refusal, Table, PAGE_WORDS, SLOTS};
+use mpt_monitor::{Frame, Table, PAGE_WORDS, SLOTS};
 use std::fs;
 
 /// One or more programs, each with its own table.
@@ -18,16 +19,6 @@ struct Side {
     table: Option<Table>,
 }
 
-/// What came of a command.
-#[derive(Debug, PartialEq, Eq)]
-pub enum Outcome {
-    Answer(String),
-    /// The command can't be done; nothing has changed.
-    Error(String),
-    /// The programs differ, and how.
-    Differ(String),
-}
-
 impl Sides {
     pub fn new(programs: &[Program]) -> Sides {
         let side = |&program: &Program| Side { program, table: None };
@@ -39,157 +30,119 @@ impl Sides {
         self.sides[0].table.as_ref()
     }
 
-    /// Obeys on every side, and compares the answers and then every word and slot.
-    pub fn obey(&mut self, command: &Command) -> Outcome {
-        let answers: Vec<_> = self.sides.iter_mut().map(|side| side.obey(command)).collect();
-        if answers.iter().any(|answer| *answer != answers[0]) {
-            let each = self.sides.iter().zip(&answers).map(|(side, answer)| {
-                format!("{}: {}", side.program.name, answer.as_ref().unwrap_or_else(|error| error))
-            });
-            return Outcome::Differ(each.collect::<Vec<_>>().join("\n"));
-        }
-        if let Some(difference) = self.tables_differ() {
-            return Outcome::Differ(difference);
-        }
-        match answers.into_iter().next().expect("there is a program") {
-            Ok(answer) => Outcome::Answer(answer),
-            Err(error) => Outcome::Error(error),
+    /// Gives every side a copy of this table.
+    pub fn set(&mut self, table: &Table) {
+        for side in &mut self.sides {
+            side.table = Some(table.clone());
         }
     }
 
-    fn tables_differ(&self) -> Option<String> {
+    /// Obeys on every side, and compares the answers and then every word and slot.
+    pub fn obey(&mut self, command: &Command) -> Outcome {
+        let first = self.sides[0].obey(command);
+        let others: Vec<_> = self.sides[1..].iter_mut().map(|side| side.obey(command)).collect();
+        if others.iter().any(|other| *other != first) {
+            let names = self.sides.iter().map(|side| side.program.name);
+            return Outcome::Differ(Difference::Answers(names.zip(std::iter::once(first).chain(others)).collect()));
+        }
+        // a write past the monitor is the same on all sides, so that only a call can make them differ
+        match (command.call().and_then(|_| self.tables_differ()), first) {
+            (Some(difference), _) => Outcome::Differ(difference),
+            (None, Ok(reply)) => Outcome::Answer(reply),
+            (None, Err(error)) => Outcome::Error(error),
+        }
+    }
+
+    fn tables_differ(&self) -> Option<Difference> {
         let one = &self.sides[0];
         let other = self.sides.iter().find(|side| side.table != one.table)?;
-        let (left, right) = (one.table.as_ref()?, other.table.as_ref()?);
-        Some(first_difference(one.program.name, left, other.program.name, right))
+        Some(first_difference([one.program.name, other.program.name], [one.table.as_ref()?, other.table.as_ref()?]))
     }
 }
 
 /// Where two tables that differ do so first.
-pub fn first_difference(one: &str, left: &Table, other: &str, right: &Table) -> String {
+fn first_difference([one, other]: [&'static str; 2], [left, right]: [&Table; 2]) -> Difference {
     let at = |left: &[u64], right: &[u64]| left.iter().zip(right).position(|(a, b)| a != b);
-    let line = |what: &str, at: usize, left: &[u64], right: &[u64]| {
-        format!("{one}: {what} {at} is {:016x}\n{other}: {what} {at} is {:016x}", left[at], right[at])
-    };
-    if let Some(slot) = at(left.slots(), right.slots()) {
-        return line("slot", slot, left.slots(), right.slots());
+    if let Some(index) = at(left.slots(), right.slots()) {
+        return Difference::Slot { index, is: [(one, left.slots()[index]), (other, right.slots()[index])] };
     }
     match at(left.words(), right.words()) {
-        Some(word) => line("word", word, left.words(), right.words()),
-        None => format!("{one}: {} words\n{other}: {} words", left.words().len(), right.words().len()),
+        Some(index) => Difference::Word { index, is: [(one, left.words()[index]), (other, right.words()[index])] },
+        None => Difference::Length([(one, left.words().len()), (other, right.words().len())]),
     }
 }
 
 impl Side {
-    fn obey(&mut self, command: &Command) -> Result<String, String> {
+    fn obey(&mut self, command: &Command) -> Result<Reply, Error> {
         if let Command::Frame { paw, first, pages, extra } = *command {
             let words = vec![0; pages * PAGE_WORDS + extra];
             self.table = Some(Table::from_parts(Frame { paw, first }, words, [0; SLOTS]));
-            return Ok("ok".to_string());
+            return Ok(Reply::Done);
         }
-        let Some(table) = &mut self.table else {
-            return Err("there is no memory yet; begin with `frame PAW FIRST PAGES`".to_string());
-        };
-        match command {
-            Command::Load(file) => {
-                let bytes = fs::read(file).map_err(|error| format!("{file}: {error}"))?;
-                *table = image::from_bytes(table.frame(), &bytes).map_err(|why| format!("{file}: {why}"))?;
-                Ok("ok".to_string())
-            }
-            Command::Save(file) => {
-                fs::write(file, image::to_bytes(table)).map_err(|error| format!("{file}: {error}"))?;
-                Ok("ok".to_string())
-            }
-            _ => raw(table, command).unwrap_or_else(|| Ok(call(self.program, table, command))),
+        let table = self.table.as_mut().ok_or(Error::NoFrame)?;
+        match command.call() {
+            Some(call) => Ok(Reply::Call(self.program.monitor().call(table, call))),
+            None => past_the_monitor(table, command),
         }
     }
 }
 
-/// Reads and writes past the monitor; nothing if the command is a call.
-fn raw(table: &mut Table, command: &Command) -> Option<Result<String, String>> {
-    let count = table.words().len();
-    Some(match *command {
-        Command::Poke { index, word } => match table.words_mut().get_mut(index) {
-            Some(place) => {
-                *place = word;
-                Ok("ok".to_string())
-            }
-            None => Err(outside(index, 1, count)),
-        },
+/// Reads and writes past the monitor.
+fn past_the_monitor(table: &mut Table, command: &Command) -> Result<Reply, Error> {
+    match command {
+        Command::Poke { index, word } => poke(table, *index, *word),
         Command::SetSlot { index, register } => {
-            table.slots_mut()[index] = register.0;
-            Ok("ok".to_string())
+            table.slots_mut()[*index] = register.0;
+            Ok(Reply::Done)
         }
-        Command::Peek { index, count: many } => match table.words().get(index..index.saturating_add(many)) {
-            Some(words) if many > 0 => Ok(hex(words)),
-            _ => Err(outside(index, many, count)),
-        },
-        Command::Slots => Ok(hex(table.slots())),
-        Command::Sum => Ok(format!("{:08x}", image::sum(table))),
-        Command::Free => Ok(free(table)),
-        _ => return None,
-    })
-}
-
-fn outside(index: usize, many: usize, count: usize) -> String {
-    match (many, count) {
-        (0, _) => "COUNT 0 asks for nothing; at least 1".to_string(),
-        (_, 0) => "the memory has no words".to_string(),
-        _ => format!("{many} words from {index} are not all there; the words are 0 to {}", count - 1),
+        Command::Peek { index, count } => peek(table, *index, *count),
+        Command::Slots => Ok(Reply::Words(table.slots().to_vec())),
+        Command::Sum => Ok(Reply::Sum(image::sum(table))),
+        Command::Free => Ok(Reply::Free(free(table))),
+        Command::Load(file) => load(table, file),
+        Command::Save(file) => save(table, file),
+        _ => unreachable!("a frame is made before, and the others are calls"),
     }
 }
 
-fn hex(words: &[u64]) -> String {
-    words.iter().map(|word| format!("{word:016x}")).collect::<Vec<_>>().join(" ")
+fn poke(table: &mut Table, index: usize, word: u64) -> Result<Reply, Error> {
+    let count = table.words().len();
+    let place = table.words_mut().get_mut(index).ok_or(Error::Outside { index, many: 1, count })?;
+    *place = word;
+    Ok(Reply::Done)
+}
+
+fn peek(table: &Table, index: usize, many: usize) -> Result<Reply, Error> {
+    if many == 0 {
+        return Err(Error::NoCount);
+    }
+    let words = table.words().get(index..index.saturating_add(many));
+    let outside = Error::Outside { index, many, count: table.words().len() };
+    words.map(|words| Reply::Words(words.to_vec())).ok_or(outside)
+}
+
+fn load(table: &mut Table, file: &str) -> Result<Reply, Error> {
+    let error = |why| Error::File { file: file.to_string(), why };
+    let bytes = fs::read(file).map_err(|why| error(why.to_string()))?;
+    *table = image::from_bytes(table.frame(), &bytes).map_err(error)?;
+    Ok(Reply::Done)
+}
+
+fn save(table: &Table, file: &str) -> Result<Reply, Error> {
+    let error = |why: std::io::Error| Error::File { file: file.to_string(), why: why.to_string() };
+    fs::write(file, image::to_bytes(table)).map_err(error)?;
+    Ok(Reply::Done)
 }
 
 /// The number of free pages, by the second program's reading of the table.
-fn free(table: &Table) -> String {
+fn free(table: &Table) -> Free {
     let frame = second::Frame { paw: table.frame().paw, first: table.frame().first.0 };
     if !frame.within_bounds(table.words()) {
-        return "free unknown: the frame breaks its bounds".to_string();
+        return Free::BadFrame;
     }
     match second::used_pages(frame, table.words(), table.slots()) {
-        Some(used) => format!("free {}", table.words().len() / PAGE_WORDS - used.len()),
-        None => "free unknown: the table is not sound".to_string(),
-    }
-}
-
-fn call(program: Program, table: &mut Table, command: &Command) -> String {
-    let monitor = program.monitor();
-    match *command {
-        Command::Open { slot, sdid } => {
-            or_refused(monitor.open(table, slot, sdid), |register| format!("opened {register}"))
-        }
-        Command::Close { slot } => {
-            or_refused(monitor.close(table, slot), |fence| format!("closed {}", fence_text(fence)))
-        }
-        Command::Edit(edit) => or_refused(monitor.edit(table, edit), edited_text),
-        Command::Lookup { register, privilege, kind, address } => {
-            match monitor.lookup(table, register, privilege, kind, address) {
-                Answer::Allowed => "allowed".to_string(),
-                Answer::Fault(cause) => format!("fault {}", cause.number()),
-                Answer::Refused(refusal) => format!("refused {}", refusal.number()),
-            }
-        }
-        _ => unreachable!("the other commands are no calls"),
-    }
-}
-
-fn or_refused<T>(answer: Result<T, Refusal>, text: impl Fn(T) -> String) -> String {
-    answer.map_or_else(|refusal| format!("refused {}", refusal.number()), text)
-}
-
-fn edited_text(edited: Edited) -> String {
-    let all = if edited.all { "all" } else { "part" };
-    format!("edited {} {all} {}", edited.stores, fence_text(edited.fence))
-}
-
-fn fence_text(fence: Fence) -> String {
-    match fence {
-        Fence::None => "fence none".to_string(),
-        Fence::Domain(sdid) => format!("fence domain {}", sdid.0),
-        Fence::Address(address, sdid) => format!("fence address {:#x} {}", address.0, sdid.0),
+        Some(used) => Free::Pages(table.words().len() / PAGE_WORDS - used.len()),
+        None => Free::NotSound,
     }
 }
 
@@ -198,7 +151,7 @@ mod tests {
     use super::*;
     use crate::command::parse;
     use crate::programs::{PLAIN, SECOND};
-    use mpt_monitor::Interface;
+    use mpt_monitor::{Answer, Edited, Interface, Reading, View, ViewMut, Writing};
 
     fn run(sides: &mut Sides, line: &str) -> Outcome {
         sides.obey(&parse(line).unwrap().unwrap())
@@ -207,14 +160,16 @@ mod tests {
     #[test]
     fn commands_before_a_frame_are_errors() {
         let mut sides = Sides::new(&[SECOND]);
-        assert!(matches!(run(&mut sides, "sum"), Outcome::Error(text) if text.contains("frame")));
+        assert_eq!(run(&mut sides, "sum"), Outcome::Error(Error::NoFrame));
     }
 
     #[test]
     fn raw_reads_and_writes() {
         let mut sides = Sides::new(&[SECOND, PLAIN]);
-        let mut expect =
-            |line: &str, answer: &str| assert_eq!(run(&mut sides, line), Outcome::Answer(answer.to_string()), "{line}");
+        let mut expect = |line: &str, text: &str| match run(&mut sides, line) {
+            Outcome::Answer(reply) => assert_eq!(reply.to_string(), text, "{line}"),
+            other => panic!("{line}: {other:?}"),
+        };
         expect("frame 32 0x80000 2", "ok");
         // by zlib, over 64 + 8,192 zero bytes
         expect("sum", "45d57ebb");
@@ -223,53 +178,33 @@ mod tests {
         expect("slot 7 1", "ok");
         expect("slots", &("0000000000000000 ".repeat(7) + "0000000000000001"));
         expect("open 0 5", "refused 3");
+        expect("sound", "refused 3");
         expect("slot 7 0", "ok");
         expect("open 0 5", "opened 0x1140000000080000");
         expect("free", "free 1");
+        expect("sound", "sound");
         expect("close 0", "closed fence domain 5");
         for line in ["poke 1024 0", "peek 1023 2", "peek 0 0", "peek 18446744073709551615 2"] {
             assert!(matches!(run(&mut sides, line), Outcome::Error(_)), "{line}");
         }
     }
 
-    /// A program with a slip in its store count.
+    /// A program with a slip in its store count, and one in what an open writes.
     struct Miscounts;
 
     impl Interface for Miscounts {
-        fn lookup(&self, a: u64, b: u64, c: &[u64], d: u64, e: u64, f: u64, g: u64) -> u64 {
-            PLAIN.interface.lookup(a, b, c, d, e, f, g)
+        fn read(&self, table: View<'_>, call: Reading) -> Answer {
+            PLAIN.interface.read(table, call)
         }
 
-        fn open(&self, a: u64, b: u64, c: &mut [u64], d: &mut [u64; 8], e: u64, f: u64) -> u64 {
-            let code = PLAIN.interface.open(a, b, c, d, e, f);
-            c[600] = e;
-            code
-        }
-
-        fn close(&self, a: u64, b: u64, c: &[u64], d: &mut [u64; 8], e: u64, f: &mut [u64; 3]) -> u64 {
-            PLAIN.interface.close(a, b, c, d, e, f)
-        }
-
-        fn edit(
-            &self,
-            a: u64,
-            b: u64,
-            c: &mut [u64],
-            d: &[u64; 8],
-            e: u64,
-            f: u64,
-            g: u64,
-            h: u64,
-            i: u64,
-            j: &mut [u64; 5],
-        ) -> u64 {
-            let code = PLAIN.interface.edit(a, b, c, d, e, f, g, h, i, j);
-            j[0] += 1;
-            code
-        }
-
-        fn sound(&self, a: u64, b: u64, c: &[u64], d: &[u64; 8]) -> u64 {
-            PLAIN.interface.sound(a, b, c, d)
+        fn write(&self, table: ViewMut<'_>, call: Writing) -> Answer {
+            if let Writing::Open { slot, .. } = call {
+                table.words[600] = slot.0;
+            }
+            match PLAIN.interface.write(table, call) {
+                Answer::Edited(edited) => Answer::Edited(Edited { stores: edited.stores + 1, ..edited }),
+                other => other,
+            }
         }
     }
 
@@ -281,9 +216,11 @@ mod tests {
         run(&mut sides, "open 0 5");
         let edit = run(&mut sides, "edit 0 0x40000000 0x40000000 rw 7");
         let both = "slip: edited 8 part fence domain 5\nsecond: edited 7 part fence domain 5";
-        assert_eq!(edit, Outcome::Differ(both.to_string()));
+        assert!(matches!(edit, Outcome::Differ(how) if how.to_string() == both));
         run(&mut sides, "frame 32 0x80000 2");
-        let both = "slip: word 600 is 0000000000000003\nsecond: word 600 is 0000000000000000";
-        assert_eq!(run(&mut sides, "open 3 5"), Outcome::Differ(both.to_string()));
+        let is = [("slip", 3), ("second", 0)];
+        let word = Difference::Word { index: 600, is };
+        assert_eq!(word.to_string(), "slip: word 600 is 0000000000000003\nsecond: word 600 is 0000000000000000");
+        assert_eq!(run(&mut sides, "open 3 5"), Outcome::Differ(word));
     }
 }

@@ -7,6 +7,10 @@ use std::process::{Command, Stdio};
 
 /// Exit status, standard output and standard error.
 fn mpt(words: &[&str], input: &str) -> (i32, String, String) {
+    mpt_bytes(words, input.as_bytes())
+}
+
+fn mpt_bytes(words: &[&str], input: &[u8]) -> (i32, String, String) {
     let mut child = Command::new(env!("CARGO_BIN_EXE_mpt"))
         .args(words)
         .stdin(Stdio::piped())
@@ -15,7 +19,7 @@ fn mpt(words: &[&str], input: &str) -> (i32, String, String) {
         .spawn()
         .unwrap();
     // a command that does not read its input may be gone by now
-    let _ = child.stdin.take().unwrap().write_all(input.as_bytes());
+    let _ = child.stdin.take().unwrap().write_all(input);
     let output = child.wait_with_output().unwrap();
     let text = |bytes| String::from_utf8(bytes).unwrap();
     (output.status.code().unwrap(), text(output.stdout), text(output.stderr))
@@ -57,7 +61,8 @@ fn an_error_line_gives_status_2_and_changes_nothing() {
     let (status, output, _) = mpt(&["run", "--both"], "frame 32 1 2\npoke 0 5\nframe 32 1\nframe 32 1 2 3 4\npeek 0\n");
     let lines: Vec<&str> = output.lines().collect();
     assert_eq!((status, lines.len()), (2, 5));
-    assert!(lines[2].starts_with("error: PAGES is missing") && lines[3].starts_with("error: `4` is too much"));
+    assert!(lines[2].starts_with("error: line 3: PAGES is missing"), "{output}");
+    assert!(lines[3].starts_with("error: line 4: `4` is too much"), "{output}");
     assert_eq!(lines[4], "0000000000000005");
 }
 
@@ -72,9 +77,12 @@ fn save_and_load_and_map_an_image() {
     assert_eq!(fs::metadata(image).unwrap().len(), 64 + 16 * 4096);
     let (status, output, _) = mpt(&["map", "--image", image, "32", "0x80000", "--svg", svg], "");
     assert_eq!(status, 0);
-    let row = format!("  GiB 1   0x040000000  p{}", "_".repeat(31));
+    let row = format!("0x040000000  W*{}", ".:".repeat(31));
     assert!(output.lines().any(|line| line == row), "{output}");
+    assert!(output.contains("  0x040000000 to 0x040000fff        4 KiB  rw\n"), "{output}");
     assert!(fs::read_to_string(svg).unwrap().contains("Slot 0: SDID 5"));
+    let bytes = fs::read(image).unwrap();
+    assert_eq!(mpt_bytes(&["map", "--image", "-", "32", "0x80000"], &bytes).1, output, "standard input");
     fs::write(image, [0; 65]).unwrap();
     assert!(mpt(&["run"], &format!("frame 32 1 2\nload {image}\n")).1.contains("error: "));
 }

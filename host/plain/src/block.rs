@@ -12,6 +12,12 @@ pub fn spread4(permission: u64) -> u64 {
     permission * 0x1111_1111_1111_1111
 }
 
+/// Divided and rounded up.
+#[inline]
+fn ceil(number: u64, by: u64) -> u64 {
+    (number + by - 1) / by
+}
+
 /// The part of an edit's range that lies in one block, in pages of that block: `from..to`.
 #[derive(Clone, Copy)]
 pub struct Span {
@@ -45,7 +51,7 @@ impl Span {
     /// The L1 entries that have any page in the span.
     #[inline]
     pub fn entries(self) -> std::ops::Range<u64> {
-        self.from / 16..self.to.div_ceil(16)
+        self.from / 16..ceil(self.to, 16)
     }
 
     /// The fields of an L1 entry that the span covers, all four bits of each.
@@ -66,14 +72,14 @@ impl Span {
     #[inline]
     fn whole_pieces(self) -> u64 {
         let below = |piece: u64| (1u64 << (2 * piece)) - 1;
-        below(self.to / PIECE) & !below(self.from.div_ceil(PIECE))
+        below(self.to / PIECE) & !below(ceil(self.from, PIECE))
     }
 
     /// Of a TYPE 6 entry's info, the bits of pieces that have any page in the span.
     #[inline]
     fn met_pieces(self) -> u64 {
         let below = |piece: u64| (1u64 << (2 * piece)) - 1;
-        below(self.to.div_ceil(PIECE)) & !below(self.from / PIECE)
+        below(ceil(self.to, PIECE)) & !below(self.from / PIECE)
     }
 }
 
@@ -103,7 +109,8 @@ pub fn flat_info(entry: u64) -> u64 {
 #[inline]
 pub fn pieces_of_table(page: &[u64; 512], span: Span, permission: u64) -> Option<u64> {
     let mut info = 0;
-    for (number, piece) in page.as_chunks::<32>().0.iter().enumerate() {
+    for (number, piece) in page.chunks_exact(32).enumerate() {
+        let piece: &[u64; 32] = piece.try_into().expect("32 words");
         let base = number as u64 * PIECE;
         let covered = span.from.max(base)..span.to.min(base + PIECE);
         let one = if covered.is_empty() {
@@ -142,7 +149,7 @@ fn rest_is(piece: &[u64; 32], base: u64, span: Span, permission: u64) -> bool {
 /// Fills an L1 page for a block that is no TYPE 4 now, with the edit in it.
 pub fn fill_table(page: &mut [u64; 512], entry: u64, span: Span, permission: u64) {
     let info = flat_info(entry);
-    for (number, piece) in page.as_chunks_mut::<32>().0.iter_mut().enumerate() {
+    for (number, piece) in page.chunks_exact_mut(32).enumerate() {
         piece.fill(spread4(info >> (2 * number) & 3));
     }
     for entry in span.entries() {

@@ -1,30 +1,29 @@
 //! The whole-table check, in two versions that differ in how an L1 page is tested.
 
 use crate::lent::{sdid, Lent, Used, PPN, WPRI};
-use crate::{BAD_FRAME, DONE, NOT_SOUND};
+use crate::{Frame, Refusal, BAD_FRAME, NOT_SOUND};
 
 /// The two reserved bits of each of 16 fields.
 const RESERVED: u64 = 0xCCCC_CCCC_CCCC_CCCC;
 
 /// Hand-tuned: the entries of an L1 page are gathered by OR and tested once.
-pub fn sound(paw: u64, first: u64, words: &[u64], slots: &[u64; 8]) -> u64 {
-    answer(paw, first, words, slots, |lent, slots| used_pages(lent, words, slots).is_some())
+pub fn sound(frame: Frame, words: &[u64], slots: &[u64; 8]) -> Result<(), Refusal> {
+    answer(frame, words, |lent| used_pages(lent, words, slots).is_some())
 }
 
 /// Obvious: each entry of an L1 page is tested by the mask.
 #[inline(never)]
-pub fn sound_obvious(paw: u64, first: u64, words: &[u64], slots: &[u64; 8]) -> u64 {
+pub fn sound_obvious(frame: Frame, words: &[u64], slots: &[u64; 8]) -> Result<(), Refusal> {
     let clean = |page: &[u64]| page.iter().all(|entry| entry & RESERVED == 0);
-    answer(paw, first, words, slots, |lent, slots| check(lent, words, slots, clean).is_some())
+    answer(frame, words, |lent| check(lent, words, slots, clean).is_some())
 }
 
 #[inline(always)]
-fn answer(paw: u64, first: u64, words: &[u64], slots: &[u64; 8], is_sound: impl Fn(Lent, &[u64; 8]) -> bool) -> u64 {
-    let Some(lent) = Lent::new(paw, first, words.len()) else { return BAD_FRAME };
-    if is_sound(lent, slots) {
-        DONE
-    } else {
-        NOT_SOUND
+fn answer(frame: Frame, words: &[u64], is_sound: impl Fn(Lent) -> bool) -> Result<(), Refusal> {
+    match Lent::new(frame, words.len()) {
+        None => Err(BAD_FRAME),
+        Some(lent) if is_sound(lent) => Ok(()),
+        Some(_) => Err(NOT_SOUND),
     }
 }
 
@@ -36,7 +35,7 @@ pub fn used_pages(lent: Lent, words: &[u64], slots: &[u64; 8]) -> Option<Used> {
 
 #[inline(always)]
 fn check(lent: Lent, words: &[u64], slots: &[u64; 8], clean: impl Fn(&[u64]) -> bool) -> Option<Used> {
-    let (pages, _) = words.as_chunks::<512>();
+    let page_at = |nth: usize| &words[nth * 512..][..512];
     let mut used = Used::default();
     let mut sdids = 0u64;
     for &register in slots.iter().filter(|&&register| register != 0) {
@@ -49,13 +48,13 @@ fn check(lent: Lent, words: &[u64], slots: &[u64; 8], clean: impl Fn(&[u64]) -> 
         if !used.mark(root) {
             return None;
         }
-        for &entry in &pages[root][..lent.blocks()] {
+        for &entry in &page_at(root)[..lent.blocks()] {
             match entry >> 44 {
                 0..=3 if entry & PPN == 0 => {}
                 6 if entry & PPN < 1 << 32 => {}
                 4 => {
                     let page = lent.index(entry & PPN)?;
-                    if !used.mark(page) || !clean(&pages[page]) {
+                    if !used.mark(page) || !clean(page_at(page)) {
                         return None;
                     }
                 }

@@ -1,33 +1,30 @@
-//! Open and close.
+//! Open and close. The slots are the caller's, who writes them.
 
 use crate::check::used_pages;
 use crate::lent::{sdid, Lent};
 use crate::*;
 
-pub fn open(paw: u64, first: u64, words: &mut [u64], slots: &mut [u64; 8], slot: u64, new_sdid: u64) -> u64 {
-    let Some(lent) = Lent::new(paw, first, words.len()) else { return BAD_FRAME };
-    let Some(mut used) = used_pages(lent, words, slots) else { return NOT_SOUND };
+/// Answers the register for the slot.
+pub fn open(frame: Frame, words: &mut [u64], slots: &[u64; 8], slot: u64, new_sdid: u64) -> Result<u64, Refusal> {
+    let lent = Lent::new(frame, words.len()).ok_or(BAD_FRAME)?;
+    let mut used = used_pages(lent, words, slots).ok_or(NOT_SOUND)?;
     if slot > 7 || slots[slot as usize] != 0 {
-        return BAD_SLOT;
+        return Err(BAD_SLOT);
     }
     if new_sdid > 63 || slots.iter().any(|&register| register != 0 && sdid(register) == new_sdid) {
-        return BAD_SDID;
+        return Err(BAD_SDID);
     }
-    let Some(root) = used.take_lowest(lent.pages) else { return NO_PAGE };
+    let root = used.take_lowest(lent.pages).ok_or(NO_PAGE)?;
     words[root * 512..][..512].fill(0);
-    slots[slot as usize] = 1 << 60 | new_sdid << 54 | (first + root as u64);
-    DONE
+    Ok(1 << 60 | new_sdid << 54 | (frame.first + root as u64))
 }
 
-pub fn close(paw: u64, first: u64, words: &[u64], slots: &mut [u64; 8], slot: u64, fence: &mut [u64; 3]) -> u64 {
-    let Some(lent) = Lent::new(paw, first, words.len()) else { return BAD_FRAME };
-    if used_pages(lent, words, slots).is_none() {
-        return NOT_SOUND;
-    }
+/// The slot is then to be emptied.
+pub fn close(frame: Frame, words: &[u64], slots: &[u64; 8], slot: u64) -> Result<Fence, Refusal> {
+    let lent = Lent::new(frame, words.len()).ok_or(BAD_FRAME)?;
+    used_pages(lent, words, slots).ok_or(NOT_SOUND)?;
     if slot > 7 || slots[slot as usize] == 0 {
-        return BAD_SLOT;
+        return Err(BAD_SLOT);
     }
-    *fence = [FENCE_DOMAIN, sdid(slots[slot as usize]), 0];
-    slots[slot as usize] = 0;
-    DONE
+    Ok(Fence::Domain { sdid: sdid(slots[slot as usize]) })
 }

@@ -11,39 +11,27 @@ use std::ops::ControlFlow::{self, Break, Continue};
 const GIB_PAGES: u64 = 1 << 18;
 const GIB_BLOCKS: u64 = 32;
 
-#[allow(clippy::too_many_arguments)]
-pub fn edit(
-    paw: u64,
-    first: u64,
-    words: &mut [u64],
-    slots: &[u64; 8],
-    slot: u64,
-    start: u64,
-    length: u64,
-    permission: u64,
-    limit: u64,
-    answer: &mut [u64; 5],
-) -> u64 {
+pub fn edit(frame: Frame, words: &mut [u64], slots: &[u64; 8], asked: Asked) -> Result<Edited, Refusal> {
+    let Asked { slot, start, length, permission, limit } = asked;
     if permission > 3 {
-        return OUTSIDE_KIND;
+        return Err(OUTSIDE_KIND);
     }
-    let Some(lent) = Lent::new(paw, first, words.len()) else { return BAD_FRAME };
-    let Some(used) = used_pages(lent, words, slots) else { return NOT_SOUND };
+    let lent = Lent::new(frame, words.len()).ok_or(BAD_FRAME)?;
+    let used = used_pages(lent, words, slots).ok_or(NOT_SOUND)?;
     if slot > 7 || slots[slot as usize] == 0 {
-        return BAD_SLOT;
+        return Err(BAD_SLOT);
     }
-    let Some((from, to)) = pages_of_range(lent, start, length) else { return BAD_RANGE };
-    if permission != 0 && from < first + lent.pages && first < to {
-        return MEETS_LENT;
+    let (from, to) = pages_of_range(lent, start, length).ok_or(BAD_RANGE)?;
+    if permission != 0 && from < lent.first + lent.pages && lent.first < to {
+        return Err(MEETS_LENT);
     }
     let register = slots[slot as usize];
-    let root = ((register & PPN) - first) as usize * 512;
+    let root = ((register & PPN) - lent.first) as usize * 512;
     let mut edit = Edit { lent, words, root, from, to, permission, new: [0; 2], filled: 0, left: limit, last: 0 };
     if !edit.reserve(used) {
-        return NO_PAGE;
+        return Err(NO_PAGE);
     }
-    *answer = edit.answer(limit, sdid(register), start);
-    DONE
+    Ok(edit.answer(limit, sdid(register), start))
 }
 
 /// The page numbers of a range, if it is one.
@@ -95,16 +83,17 @@ impl Edit<'_> {
     }
 
     /// Runs, and says how many stores it made, whether these were all, and the fence.
-    fn answer(&mut self, limit: u64, sdid: u64, start: u64) -> [u64; 5] {
+    fn answer(&mut self, limit: u64, sdid: u64, start: u64) -> Edited {
         let all = self.run().is_continue();
-        let made = limit - self.left;
+        let stores = limit - self.left;
         let in_root = (self.root..self.root + self.lent.blocks()).contains(&self.last);
         let one_page = self.to - self.from == 1;
-        match made {
-            0 => [0, all as u64, FENCE_NONE, 0, 0],
-            1 if all && one_page && !in_root => [1, 1, FENCE_ADDRESS, sdid, start],
-            _ => [made, all as u64, FENCE_DOMAIN, sdid, 0],
-        }
+        let fence = match stores {
+            0 => Fence::None,
+            1 if all && one_page && !in_root => Fence::Address { address: start, sdid },
+            _ => Fence::Domain { sdid },
+        };
+        Edited { stores, all, fence }
     }
 
     fn run(&mut self) -> ControlFlow<()> {
@@ -145,7 +134,7 @@ impl Edit<'_> {
             Some(spread2(self.permission))
         } else if entry >> 44 == 4 {
             let page = self.table(entry);
-            let page = self.words[page..].first_chunk::<512>().expect("an L1 page is lent");
+            let page = self.words[page..][..512].try_into().expect("512 words");
             pieces_of_table(page, span, self.permission)
         } else {
             pieces_of_flat(entry, span, self.permission)
@@ -213,7 +202,7 @@ impl Edit<'_> {
         let entry = self.words[index];
         let page = self.new[self.filled];
         self.filled += 1;
-        let place = self.words[page..].first_chunk_mut::<512>().expect("a new page is lent");
+        let place: &mut [u64; 512] = (&mut self.words[page..][..512]).try_into().expect("512 words");
         if self.left < 512 {
             let mut table = [0; 512];
             fill_table(&mut table, entry, span, self.permission);

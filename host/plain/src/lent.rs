@@ -1,5 +1,7 @@
 //! Lent memory: its bounds, its pages by index, and which of them are in use.
 
+use crate::Frame;
+
 /// A frame within its bounds.
 #[derive(Clone, Copy)]
 pub struct Lent {
@@ -10,9 +12,10 @@ pub struct Lent {
 
 impl Lent {
     #[inline]
-    pub fn new(paw: u64, first: u64, words: usize) -> Option<Lent> {
+    pub fn new(frame: Frame, words: usize) -> Option<Lent> {
+        let Frame { paw, first } = frame;
         let pages = words as u64 / 512;
-        if paw.wrapping_sub(30) > 4 || !words.is_multiple_of(512) || pages.wrapping_sub(2) > 254 {
+        if paw.wrapping_sub(30) > 4 || words % 512 != 0 || pages.wrapping_sub(2) > 254 {
             return None;
         }
         let room = (1u64 << (paw - 12)) - pages;

@@ -1,7 +1,7 @@
 //! The lookup.
 
 use crate::lent::{Lent, PPN};
-use crate::{BAD_FRAME, BAD_REGISTER, DONE, FAULT, OUTSIDE_KIND};
+use crate::{Frame, Looked, BAD_FRAME, BAD_REGISTER, OUTSIDE_KIND};
 
 /// PPN and SDID, which Bare must leave zero.
 const NOT_BARE: u64 = 63 << 54 | PPN;
@@ -14,20 +14,23 @@ const EXECUTE: u8 = 0b1010;
 const ALLOWED_BY: [u8; 9] = [EXECUTE, READ, WRITE, READ, READ, READ, WRITE, WRITE, WRITE];
 
 /// Kinds 0 to 2 are fetch, load, store; 3 to 5 a page-table read for these; 6 to 8 an A/D update.
-pub fn lookup(paw: u64, first: u64, words: &[u64], mmpt: u64, privilege: u64, kind: u64, address: u64) -> u64 {
+pub fn lookup(frame: Frame, words: &[u64], mmpt: u64, privilege: u64, kind: u64, address: u64) -> Looked {
     if kind > 8 || privilege > 3 || privilege == 2 {
-        return OUTSIDE_KIND;
+        return Looked::Refused(OUTSIDE_KIND);
     }
-    let Some(lent) = Lent::new(paw, first, words.len()) else { return BAD_FRAME };
+    let lent = match Lent::new(frame, words.len()) {
+        Some(lent) => lent,
+        None => return Looked::Refused(BAD_FRAME),
+    };
     match mmpt >> 60 {
-        0 if mmpt & NOT_BARE == 0 => return DONE,
-        1 if privilege == 3 => return DONE,
+        0 if mmpt & NOT_BARE == 0 => return Looked::Allowed,
+        1 if privilege == 3 => return Looked::Allowed,
         1 => {}
-        _ => return BAD_REGISTER,
+        _ => return Looked::Refused(BAD_REGISTER),
     }
     match walk(lent, words, mmpt & PPN, address) {
-        Some(permission) if ALLOWED_BY[kind as usize] >> permission & 1 == 1 => DONE,
-        _ => FAULT + CAUSE[kind as usize % 3],
+        Some(permission) if ALLOWED_BY[kind as usize] >> permission & 1 == 1 => Looked::Allowed,
+        _ => Looked::Fault(CAUSE[kind as usize % 3]),
     }
 }
 

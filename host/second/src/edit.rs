@@ -92,10 +92,7 @@ pub fn store_list(frame: Frame, words: &[u64], slots: &Slots, asked: Asked) -> R
 
 fn range_refused(frame: Frame, asked: Asked) -> bool {
     let end = u128::from(asked.start) + u128::from(asked.length);
-    asked.length == 0
-        || !asked.start.is_multiple_of(PAGE_BYTES)
-        || !asked.length.is_multiple_of(PAGE_BYTES)
-        || end > 1 << frame.paw
+    asked.length == 0 || asked.start % PAGE_BYTES != 0 || asked.length % PAGE_BYTES != 0 || end > 1 << frame.paw
 }
 
 /// Whether the range and the lent pages have an address in common.
@@ -149,9 +146,12 @@ impl Stores<'_> {
 
     /// "all 512 entries of a new page in order, then the L2 entry."
     fn new_page(&mut self, entry: usize, block: &[Permission]) {
-        let Some(page) = self.free.next() else {
-            self.short_of_pages = true;
-            return;
+        let page = match self.free.next() {
+            Some(page) => page,
+            None => {
+                self.short_of_pages = true;
+                return;
+            }
         };
         let at = self.frame.word_index(self.words, page).expect("a free page is lent");
         for (nth, word) in l1_entries(block).into_iter().enumerate() {

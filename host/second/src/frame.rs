@@ -16,7 +16,7 @@ impl Frame {
     /// PAW 30 to 34; 2 to 256 whole pages; first page at least 1; first + pages at most 2^(PAW-12).
     pub fn within_bounds(&self, words: &[u64]) -> bool {
         let paw_fits = (30..=34).contains(&self.paw);
-        let whole = words.len().is_multiple_of(PAGE_WORDS);
+        let whole = words.len() % PAGE_WORDS == 0;
         let pages = (words.len() / PAGE_WORDS) as u64;
         paw_fits
             && whole

@@ -31,7 +31,7 @@ pub fn used_pages(frame: Frame, words: &[u64], slots: &Slots) -> Option<Vec<u64>
         }
     }
     let l1_pages = &used[registers.len()..];
-    let clean = l1_pages.iter().all(|&page| frame.page(words, page).is_some_and(reserved_clear));
+    let clean = l1_pages.iter().all(|&page| frame.page(words, page).map_or(false, reserved_clear));
     (clean && distinct(&used)).then_some(used)
 }
 

@@ -1,14 +1,14 @@
 -- `api::mpt_edit` meets its contract: a permission is known by its code, and else nothing is done.
 use mathlib.Core.Path.{_≡_, refl, sym, ap, _∙_}
 use borrow.Author.Needs.{needs}
-use Rattle.api.specs.Codes.{known, permissionAt, grantOf, doneWord}
+use Rattle.api.specs.Codes.{known, permissionAt, permissionCodeOf, doneWord}
 use Rattle.model.specs.Calls.{Outcome}
 use Rattle.types.specs.Views.{permissionNumber}
 use Rattle.api.proofs.mpt_edit.Statement.{statement}
 use Rattle.api.proofs.mpt_edit.Tie as tie
 
-grant-requires : tie.Need-grant-requires
-grant-requires c κs = search needs
+permission-at-requires : tie.Need-permission-at-requires
+permission-at-requires c κs = search needs
 
 enum-known-p : tie.Need-enum-known-p
 enum-known-p c = search needs
@@ -28,7 +28,7 @@ same-length c = search needs
 -- a code that is known names the permission that is asked
 names : (c : tie.After-p) → let a = c .before .before .before .before .before .args in
     permissionAt (a .permission) ≡ known (permissionNumber (c .p .given .0 .0))
-names c = sym (c .before .before .grant .ensures) ∙ ap grantOf (c .p .given .1)
+names c = sym (c .before .before .permission-at .ensures) ∙ ap permissionCodeOf (c .p .given .1)
 
 returns : tie.Need-returns
 returns c =
@@ -41,13 +41,13 @@ returns c =
     )
 
 returns-2 : tie.Need-returns-2
-returns-2 c = rw (sym (c .before .before .grant .ensures) ∙ ap grantOf (c .enum-told .given .1)) (refl, refl)
+returns-2 c = rw (sym (c .before .before .permission-at .ensures) ∙ ap permissionCodeOf (c .enum-told .given .1)) (refl, refl)
 
 pub mpt-edit-spec : {M : Type 1} → statement M
 mpt-edit-spec =
     tie.close
     (tie.spec
-    grant-requires
+    permission-at-requires
     enum-known-p
     edit-requires
     done-word-requires

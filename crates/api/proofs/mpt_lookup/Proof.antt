@@ -1,20 +1,20 @@
 -- `api::mpt_lookup` meets its contract: privilege and kind are known by their codes, and else the answer is 255.
 use mathlib.Core.Path.{_≡_, refl, sym, ap, _∙_}
 use borrow.Author.Needs.{needs}
-use Rattle.api.specs.Codes.{known, privilegeAt, kindAt, whoOf, whatOf, answerWord}
+use Rattle.api.specs.Codes.{known, privilegeAt, kindAt, privilegeCodeOf, kindCodeOf, answerWord}
 use Rattle.types.specs.Views.{privilegeOf, kindOf}
 use Rattle.api.proofs.Faults.{fault-of-lookup}
 use Rattle.api.proofs.mpt_lookup.Statement.{statement}
 use Rattle.api.proofs.mpt_lookup.Tie as tie
 
-who-requires : tie.Need-who-requires
-who-requires c κs = search needs
+privilege-at-requires : tie.Need-privilege-at-requires
+privilege-at-requires c κs = search needs
 
 enum-known-p : tie.Need-enum-known-p
 enum-known-p c = search needs
 
-what-requires : tie.Need-what-requires
-what-requires c κs = search needs
+kind-at-requires : tie.Need-kind-at-requires
+kind-at-requires c κs = search needs
 
 enum-known-k : tie.Need-enum-known-k
 enum-known-k c = search needs
@@ -36,10 +36,10 @@ enum-told-2 c = search needs
 
 -- a code that is known names the privilege, and the kind of access
 names-who : (c : tie.After-p) → let a = c .before .before .before .before .args in privilegeAt (a .privilege) ≡ known (privilegeOf (c .p .given .0 .0))
-names-who c = sym (c .before .before .who .ensures) ∙ ap whoOf (c .p .given .1)
+names-who c = sym (c .before .before .privilege-at .ensures) ∙ ap privilegeCodeOf (c .p .given .1)
 
 names-what : (c : tie.After-k) → let a = c .before .before .before .before .before .before .before .before .args in kindAt (a .kind) ≡ known (kindOf (c .k .given .0 .0))
-names-what c = sym (c .before .before .what .ensures) ∙ ap whatOf (c .k .given .1)
+names-what c = sym (c .before .before .kind-at .ensures) ∙ ap kindCodeOf (c .k .given .1)
 
 returns : tie.Need-returns
 returns c =
@@ -50,18 +50,18 @@ returns c =
 returns-2 : tie.Need-returns-2
 returns-2 c =
     let w = c .before .before in
-    rw (names-who (w .before .before), sym (w .what .ensures) ∙ ap whatOf (c .enum-told .given .1)) refl
+    rw (names-who (w .before .before), sym (w .kind-at .ensures) ∙ ap kindCodeOf (c .enum-told .given .1)) refl
 
 returns-3 : tie.Need-returns-3
-returns-3 c = rw (sym (c .before .before .who .ensures) ∙ ap whoOf (c .enum-told2 .given .1)) refl
+returns-3 c = rw (sym (c .before .before .privilege-at .ensures) ∙ ap privilegeCodeOf (c .enum-told2 .given .1)) refl
 
 pub mpt-lookup-spec : {M : Type 1} → statement M
 mpt-lookup-spec =
     tie.close
     (tie.spec
-    who-requires
+    privilege-at-requires
     enum-known-p
-    what-requires
+    kind-at-requires
     enum-known-k
     fault-word-requires
     lookup-requires

@@ -1,7 +1,8 @@
+-- `edit::fence_of` meets its contract: each test in the order of the definition.
 use mathlib.Core.Path.{sym, _∙_}
 use borrow.Author.Tests.{eq-eqb, ne-eqb, not-true, not-false}
 use borrow.Author.Needs.{needs}
-use Rattle.edit.specs.Done.{fenceAfter}
+use Rattle.edit.specs.Made.{fenceAfter}
 use Rattle.edit.proofs.fence_of.Statement.{statement}
 use Rattle.edit.proofs.fence_of.Tie as tie
 

@@ -17,7 +17,7 @@ use Rattle.scan.specs.Free.{clearPages}
 use Rattle.scan.specs.Admission.{Admitted}
 use Rattle.scan.proofs.Admissions.{admitted}
 use Rattle.slots.specs.Named.{notOpen}
-use Rattle.monitor.specs.Edits.{asked}
+use Rattle.monitor.specs.Edits.{requestFrom}
 use Rattle.monitor.proofs.EditRefusals.{edit-not-admitted, edit-slot}
 use Rattle.monitor.proofs.edit.Statement.{statement}
 use Rattle.monitor.proofs.edit.Tie as tie
@@ -31,7 +31,7 @@ abbrev frameAt : (s : tie.Start) → Frame
 frameAt s = frameOf (s .args .f) (memoryOf s)
 
 abbrev withBits : (s : tie.Start) → ℕ → Request
-withBits s p = asked (s .args .slot) (s .args .start .0) (s .args .length) p
+withBits s p = requestFrom (s .args .slot) (s .args .start .0) (s .args .length) p
 
 abbrev request : (s : tie.Start) → Request
 request s = withBits s (permissionNumber (s .args .permission))

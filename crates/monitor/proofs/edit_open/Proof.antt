@@ -18,9 +18,9 @@ use Rattle.laws.proofs.Frames.{framed}
 use Rattle.types.specs.declared.Free.{Free}
 use Rattle.scan.specs.Free.{listed}
 use Rattle.types.specs.Views.{requestOf, freeList}
-use Rattle.forms.specs.Kinds.{wholePages}
-use Rattle.edit.specs.Kinds.{Accepted}
-use Rattle.edit.specs.Done.{IsMade}
+use Rattle.forms.specs.Permissions.{wholePages}
+use Rattle.edit.specs.Blocks.{Prepared}
+use Rattle.edit.specs.Made.{IsMade}
 use Rattle.edit.proofs.Facts.{accepted-list}
 use Rattle.theory.specs.Rooted.{Rooted}
 use Rattle.monitor.specs.Edits.{InOpenSlot}
@@ -175,7 +175,7 @@ sdid-requires c κs = search needs
 
 -- the edit, in the words of the crate that makes the stores
 asks : (c : tie.Else3) → let s = c .before .before .before .before .before .before .before .before .before .before .before in
-    Accepted (frameAt s) (memoryOf s) (request s) (c .before .before .before .before .ppn .result .0) (freeList (c .before .before .before .before .before .free-pages .result))
+    Prepared (frameAt s) (memoryOf s) (request s) (c .before .before .before .before .ppn .result .0) (freeList (c .before .before .before .before .before .free-pages .result))
 unfolding slotAt registerFor rootOf
 asks c =
     let p = c .before .before .before .before in

@@ -1,17 +1,21 @@
 //! What the marking of the stores costs: the same proved code, compiled by the same flags, with its
 //! stores marked and not.
+// the build script says `unmarked`; that it does can't be told to every compiler from 1.63 on
+#![allow(unknown_lints, unexpected_cfgs)]
 
-use super::{line, measured, work, Ratios};
-use crate::programs::Program;
+use super::{line, measured, work, Ratios, Subject};
 
 #[cfg(unmarked)]
-const UNMARKED: Option<Program> = Some(Program { name: "unmarked", interface: &unmarked::Unmarked });
+const UNMARKED: Option<Subject> = Some(Subject { name: "unmarked", program: &unmarked::Unmarked });
 #[cfg(not(unmarked))]
-const UNMARKED: Option<Program> = None;
+const UNMARKED: Option<Subject> = None;
 
 /// Each edit, marked beside unmarked, beyond the whole-table check; nothing if the library is not here.
-pub fn edits(subject: Program, rounds: usize, ratios: &mut Ratios) -> Result<(), String> {
-    let Some(unmarked) = UNMARKED.filter(|_| subject.name == "proved") else { return Ok(()) };
+pub fn edits(subject: Subject, rounds: usize, ratios: &mut Ratios) -> Result<(), String> {
+    let unmarked = match UNMARKED {
+        Some(unmarked) if subject.name == "proved" => unmarked,
+        _ => return Ok(()),
+    };
     crate::output::line(format!(
         "\n{:<56} {:>12} {:>12} {:>7}",
         "beyond the whole-table check", "marked", "unmarked", "ratio"
@@ -26,7 +30,7 @@ pub fn edits(subject: Program, rounds: usize, ratios: &mut Ratios) -> Result<(),
 
 #[cfg(unmarked)]
 mod unmarked {
-    use mpt_monitor::{Interface, Proved};
+    use mpt_monitor::{word, Answer, Interface, Proved, Reading, View, ViewMut, Writing};
 
     mod c {
         extern "C" {
@@ -57,46 +61,29 @@ mod unmarked {
 
     // SAFETY: as in mpt_monitor, whose pointers and lengths these are.
     impl Interface for Unmarked {
-        fn lookup(&self, a: u64, b: u64, c: &[u64], d: u64, e: u64, f: u64, g: u64) -> u64 {
-            Proved.lookup(a, b, c, d, e, f, g)
-        }
-
-        fn open(&self, a: u64, b: u64, c: &mut [u64], d: &mut [u64; 8], e: u64, f: u64) -> u64 {
-            Proved.open(a, b, c, d, e, f)
-        }
-
-        fn close(&self, a: u64, b: u64, c: &[u64], d: &mut [u64; 8], e: u64, f: &mut [u64; 3]) -> u64 {
-            Proved.close(a, b, c, d, e, f)
-        }
-
-        fn edit(
-            &self,
-            paw: u64,
-            first: u64,
-            words: &mut [u64],
-            slots: &[u64; 8],
-            slot: u64,
-            start: u64,
-            length: u64,
-            permission: u64,
-            limit: u64,
-            made: &mut [u64; 5],
-        ) -> u64 {
-            let (at, count) = (words.as_mut_ptr(), words.len());
-            let answer =
-                unsafe { c::unmarked_mpt_edit(paw, first, at, count, slots, slot, start, length, permission, limit) };
-            if answer < 256 {
-                return answer;
+        #[inline(always)]
+        fn read(&self, table: View<'_>, call: Reading) -> Answer {
+            let View { frame, words, slots } = table;
+            match call {
+                Reading::Sound => word::sound(unsafe {
+                    c::unmarked_mpt_sound(frame.paw, frame.first.0, words.as_ptr(), words.len(), slots)
+                }),
+                _ => Proved.read(table, call),
             }
-            // the same parts as the marked side takes out, so that both sides do the same work
-            let fence = answer >> 10 & 3;
-            let address = if fence == 2 { start } else { 0 };
-            *made = [answer >> 18 & 0xFF_FFFF_FFFF, answer >> 9 & 1, fence, answer >> 12 & 63, address];
-            0
         }
 
-        fn sound(&self, paw: u64, first: u64, words: &[u64], slots: &[u64; 8]) -> u64 {
-            unsafe { c::unmarked_mpt_sound(paw, first, words.as_ptr(), words.len(), slots) }
+        #[inline(always)]
+        fn write(&self, table: ViewMut<'_>, call: Writing) -> Answer {
+            let (slot, start, length, permission, limit) = match call {
+                Writing::Edit { slot, start, length, permission, limit } => (slot, start, length, permission, limit),
+                _ => return Proved.write(table, call),
+            };
+            let ViewMut { frame, words, slots } = table;
+            let (paw, first, at, count) = (frame.paw, frame.first.0, words.as_mut_ptr(), words.len());
+            let word = unsafe {
+                c::unmarked_mpt_edit(paw, first, at, count, slots, slot.0, start.0, length, permission, limit)
+            };
+            word::edited(word, start)
         }
     }
 }

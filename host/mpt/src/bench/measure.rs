@@ -1,8 +1,7 @@
 //! Interleaved rounds, medians and ratios.
 
-use super::work::{sound, Work};
-use mpt_monitor::{Interface, Table};
-use std::hint::black_box;
+use super::work::{opaque, Batches, Work};
+use mpt_monitor::Table;
 use std::time::Instant;
 
 /// Nanoseconds of one call, round by round.
@@ -40,7 +39,7 @@ pub fn clock() -> impl Fn() -> f64 {
 
 /// Measures a subject beside a yardstick. Each round times both, in turn first, so that a busy
 /// machine slows both alike.
-pub fn measure(work: &Work, subject: &dyn Interface, yardstick: &dyn Interface, rounds: usize, clock: Clock) -> Row {
+pub fn measure(work: &Work, subject: &dyn Batches, yardstick: &dyn Batches, rounds: usize, clock: Clock) -> Row {
     let mut tables = work.tables();
     let mut times = [Times::default(), Times::default()];
     for round in 0..rounds + 1 {
@@ -63,18 +62,18 @@ pub fn measure(work: &Work, subject: &dyn Interface, yardstick: &dyn Interface, 
     }
 }
 
-fn time_call(work: &Work, program: &dyn Interface, tables: &mut [Table], clock: Clock) -> f64 {
+fn time_call(work: &Work, program: &dyn Batches, tables: &mut [Table], clock: Clock) -> f64 {
     work.reset(tables);
     let start = clock();
-    black_box(work.batch(black_box(program), tables));
-    (clock() - start) / work.calls(tables) as f64
+    opaque(opaque(program).batch(work, tables));
+    (clock() - start) / work.count(tables) as f64
 }
 
 /// The whole-table check on the tables as they are before the call.
-fn time_check(work: &Work, program: &dyn Interface, tables: &mut [Table], clock: Clock) -> f64 {
+fn time_check(work: &Work, program: &dyn Batches, tables: &mut [Table], clock: Clock) -> f64 {
     work.reset(tables);
     let start = clock();
-    black_box(tables.iter().map(|table| sound(black_box(program), table)).sum::<u64>());
+    opaque(opaque(program).checks(tables));
     (clock() - start) / tables.len() as f64
 }
 
@@ -87,7 +86,8 @@ fn median(mut numbers: Vec<f64>) -> f64 {
 mod tests {
     use super::super::work;
     use super::*;
-    use crate::programs::PLAIN;
+    use crate::programs::{Plain, PLAIN};
+    use mpt_monitor::{Answer, Interface, Reading, View, ViewMut, Writing};
     use std::cell::Cell;
 
     /// Plain, in a time of its own: a check takes `check` and any other call `call`.
@@ -104,41 +104,14 @@ mod tests {
     }
 
     impl Interface for Timed<'_> {
-        fn lookup(&self, a: u64, b: u64, c: &[u64], d: u64, e: u64, f: u64, g: u64) -> u64 {
-            self.pass(self.call);
-            PLAIN.interface.lookup(a, b, c, d, e, f, g)
+        fn read(&self, table: View<'_>, call: Reading) -> Answer {
+            self.pass(if call == Reading::Sound { self.check } else { self.call });
+            PLAIN.interface.read(table, call)
         }
 
-        fn open(&self, a: u64, b: u64, c: &mut [u64], d: &mut [u64; 8], e: u64, f: u64) -> u64 {
+        fn write(&self, table: ViewMut<'_>, call: Writing) -> Answer {
             self.pass(self.call);
-            PLAIN.interface.open(a, b, c, d, e, f)
-        }
-
-        fn close(&self, a: u64, b: u64, c: &[u64], d: &mut [u64; 8], e: u64, f: &mut [u64; 3]) -> u64 {
-            self.pass(self.call);
-            PLAIN.interface.close(a, b, c, d, e, f)
-        }
-
-        fn edit(
-            &self,
-            a: u64,
-            b: u64,
-            c: &mut [u64],
-            d: &[u64; 8],
-            e: u64,
-            f: u64,
-            g: u64,
-            h: u64,
-            i: u64,
-            j: &mut [u64; 5],
-        ) -> u64 {
-            self.pass(self.call);
-            PLAIN.interface.edit(a, b, c, d, e, f, g, h, i, j)
-        }
-
-        fn sound(&self, a: u64, b: u64, c: &[u64], d: &[u64; 8]) -> u64 {
-            self.pass(self.check);
-            PLAIN.interface.sound(a, b, c, d)
+            PLAIN.interface.write(table, call)
         }
     }
 
@@ -164,23 +137,28 @@ mod tests {
 
     #[test]
     fn plain_against_plain_by_the_clock() {
-        let row = measure(&work::lookup(), PLAIN.interface, PLAIN.interface, 101, &clock());
+        let row = measure(&work::lookup(), &Plain, &Plain, 101, &clock());
         assert!((0.2..5.0).contains(&row.ratio()), "{}", row.ratio());
     }
 
     #[test]
     fn every_edit_is_one_that_plain_does_in_full() {
         for (work, stores) in work::edits().iter().zip([1, 544, 32, 32, 512, 513]) {
-            let work::Call::Edit(edit) = work.call else { panic!("an edit") };
-            let edited = PLAIN.monitor().edit(&mut work.table.clone(), edit).unwrap();
-            assert_eq!((edited.stores, edited.all), (stores, true), "{}", work.name);
+            let mut table = work.table.clone();
+            match work.calls {
+                work::Calls::One(call) => match PLAIN.monitor().call(&mut table, call) {
+                    Answer::Edited(edited) => assert_eq!((edited.stores, edited.all), (stores, true), "{}", work.name),
+                    other => panic!("{}: {other:?}", work.name),
+                },
+                _ => panic!("{}: no edit", work.name),
+            }
         }
     }
 
     #[test]
     fn the_largest_table_is_sound_and_full() {
         let work = work::largest();
-        assert_eq!(sound(PLAIN.interface, &work.table), 0);
+        assert_eq!(PLAIN.monitor().sound(&work.table), Ok(()));
         let frame = second::Frame { paw: 34, first: 0x1000 };
         let used = second::used_pages(frame, work.table.words(), work.table.slots());
         assert_eq!(used.map(|used| used.len()), Some(256));

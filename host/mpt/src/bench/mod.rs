@@ -6,10 +6,23 @@ mod work;
 
 use crate::options::Options;
 use crate::output;
-use crate::programs::{Program, PLAIN, PROVED};
+use crate::programs::Plain;
 use measure::{clock, measure, Row};
-use mpt_monitor::Interface;
-use work::Work;
+use mpt_monitor::{Answer, Interface, Reading, View, ViewMut, Writing};
+use work::{Batches, Work};
+
+/// What is measured, or what it is measured by.
+#[derive(Clone, Copy)]
+pub struct Subject {
+    name: &'static str,
+    program: &'static dyn Batches,
+}
+
+const PLAIN: Subject = Subject { name: "plain", program: &Plain };
+#[cfg(feature = "proved")]
+const PROVED: Option<Subject> = Some(Subject { name: "proved", program: &mpt_monitor::Proved });
+#[cfg(not(feature = "proved"))]
+const PROVED: Option<Subject> = None;
 
 /// Rounds of each measurement if no --rounds is given.
 const ROUNDS: u64 = 401;
@@ -36,8 +49,8 @@ pub fn main(mut options: Options) -> Result<u8, String> {
 type Ratios = Vec<(String, f64)>;
 
 /// Lookup, the whole-table check by two yardsticks, open and close: the whole call.
-fn calls(subject: Program, rounds: usize, ratios: &mut Ratios) -> Result<(), String> {
-    let obvious = Program { name: "obvious", interface: &Obvious };
+fn calls(subject: Subject, rounds: usize, ratios: &mut Ratios) -> Result<(), String> {
+    let obvious = Subject { name: "obvious", program: &Obvious };
     let works = [
         ("lookup", work::lookup(), PLAIN),
         ("check-tuned", work::largest(), PLAIN),
@@ -54,7 +67,7 @@ fn calls(subject: Program, rounds: usize, ratios: &mut Ratios) -> Result<(), Str
 }
 
 /// The edits: the whole call, and without the whole-table check that both make.
-fn edits(subject: Program, rounds: usize, ratios: &mut Ratios) -> Result<(), String> {
+fn edits(subject: Subject, rounds: usize, ratios: &mut Ratios) -> Result<(), String> {
     for work in work::edits() {
         let row = measured(&work, subject, PLAIN, rounds)?;
         line(work.name, work.what, row.call);
@@ -65,9 +78,9 @@ fn edits(subject: Program, rounds: usize, ratios: &mut Ratios) -> Result<(), Str
     Ok(())
 }
 
-fn measured(work: &Work, subject: Program, yardstick: Program, rounds: usize) -> Result<Row, String> {
+fn measured(work: &Work, subject: Subject, yardstick: Subject, rounds: usize) -> Result<Row, String> {
     work::check_agreement(work, subject, yardstick)?;
-    Ok(measure(work, subject.interface, yardstick.interface, rounds, &clock()))
+    Ok(measure(work, subject.program, yardstick.program, rounds, &clock()))
 }
 
 fn line(name: &str, what: &str, [subject, plain]: [f64; 2]) {
@@ -87,35 +100,18 @@ fn time(nanoseconds: f64) -> String {
 struct Obvious;
 
 impl Interface for Obvious {
-    fn lookup(&self, a: u64, b: u64, c: &[u64], d: u64, e: u64, f: u64, g: u64) -> u64 {
-        PLAIN.interface.lookup(a, b, c, d, e, f, g)
+    fn read(&self, table: View<'_>, call: Reading) -> Answer {
+        let View { frame, words, slots } = table;
+        match call {
+            Reading::Sound => {
+                let frame = plain::Frame { paw: frame.paw, first: frame.first.0 };
+                plain::sound_obvious(frame, words, slots).map_or_else(Answer::refused, |()| Answer::Sound)
+            }
+            _ => Plain.read(table, call),
+        }
     }
 
-    fn open(&self, a: u64, b: u64, c: &mut [u64], d: &mut [u64; 8], e: u64, f: u64) -> u64 {
-        PLAIN.interface.open(a, b, c, d, e, f)
-    }
-
-    fn close(&self, a: u64, b: u64, c: &[u64], d: &mut [u64; 8], e: u64, f: &mut [u64; 3]) -> u64 {
-        PLAIN.interface.close(a, b, c, d, e, f)
-    }
-
-    fn edit(
-        &self,
-        a: u64,
-        b: u64,
-        c: &mut [u64],
-        d: &[u64; 8],
-        e: u64,
-        f: u64,
-        g: u64,
-        h: u64,
-        i: u64,
-        j: &mut [u64; 5],
-    ) -> u64 {
-        PLAIN.interface.edit(a, b, c, d, e, f, g, h, i, j)
-    }
-
-    fn sound(&self, a: u64, b: u64, c: &[u64], d: &[u64; 8]) -> u64 {
-        plain::sound_obvious(a, b, c, d)
+    fn write(&self, table: ViewMut<'_>, call: Writing) -> Answer {
+        Plain.write(table, call)
     }
 }

@@ -1,26 +1,28 @@
 //! What is measured: tables, and the calls made on them.
 
-use crate::programs::{Program, PLAIN};
+use super::Subject;
+use crate::programs::PLAIN;
 use crate::random::Random;
-use mpt_monitor::{Address, Edit, Frame, Interface, PageNumber, Permission, Sdid, Slot, Table, PAGE_WORDS};
-use std::hint::black_box;
+use mpt_monitor::{
+    Address, Answer, Call, Edit, Frame, Interface, Memory, Monitor, PageNumber, Permission, Reading, Register, Sdid,
+    Slot, Table, MOST_STORES, PAGE_WORDS,
+};
+use std::arch::asm;
 
 /// One thing to measure.
 pub struct Work {
     pub name: &'static str,
     pub what: &'static str,
     pub table: Table,
-    pub call: Call,
+    pub calls: Calls,
 }
 
-/// The call, with its arguments.
-pub enum Call {
-    /// Kinds and addresses, under slot 0's register.
-    Lookups(Vec<(u64, u64)>),
-    Sound,
-    Edit(Edit),
-    Open,
-    Close,
+/// The calls of a batch.
+pub enum Calls {
+    /// Kinds and addresses, one after another on one table, under slot 0's register.
+    Lookups(Vec<(u64, Address)>),
+    /// One on each table.
+    One(Call),
 }
 
 /// Calls in a batch of lookups, and tables in a batch of anything that changes them. The lookups are
@@ -34,8 +36,8 @@ impl Work {
     /// place of a page: where a word of the table and one of the stack have the same place in their
     /// pages, a core takes them for the same for a moment, and by chance all tables would or none.
     pub fn tables(&self) -> Vec<Table> {
-        let changing = !matches!(self.call, Call::Lookups(_) | Call::Sound);
-        (0..if changing { TABLES } else { 1 }).map(|nth| self.table_with_room(16 * nth)).collect()
+        let unchanged = matches!(self.calls, Calls::Lookups(_) | Calls::One(Call::Reading(Reading::Sound)));
+        (0..if unchanged { 1 } else { TABLES }).map(|nth| self.table_with_room(16 * nth)).collect()
     }
 
     /// The table, with room for as many words more behind it.
@@ -46,10 +48,10 @@ impl Work {
     }
 
     /// How many calls a batch makes.
-    pub fn calls(&self, tables: &[Table]) -> usize {
-        match &self.call {
-            Call::Lookups(asked) => asked.len(),
-            _ => tables.len(),
+    pub fn count(&self, tables: &[Table]) -> usize {
+        match &self.calls {
+            Calls::Lookups(asked) => asked.len(),
+            Calls::One(_) => tables.len(),
         }
     }
 
@@ -60,51 +62,67 @@ impl Work {
             *table.slots_mut() = *self.table.slots();
         }
     }
+}
 
-    /// Makes the calls; answers the sum of their codes.
-    pub fn batch(&self, program: &dyn Interface, tables: &mut [Table]) -> u64 {
-        match &self.call {
-            Call::Lookups(asked) => lookups(program, &tables[0], asked),
-            Call::Sound => tables.iter().map(|table| sound(program, table)).sum(),
-            Call::Edit(edit) => tables.iter_mut().map(|table| one_edit(program, table, edit)).sum(),
-            Call::Open => tables.iter_mut().map(|table| one_open(program, table)).sum(),
-            Call::Close => tables.iter_mut().map(|table| one_close(program, table)).sum(),
-        }
+/// A program with its batches of calls, which are compiled for it alone: a call is made as firmware makes
+/// it, with nothing in between.
+pub trait Batches {
+    /// Makes a work's calls; how many were refused, which is as little as can be read of an answer.
+    fn batch(&self, work: &Work, tables: &mut [Table]) -> usize;
+
+    /// Makes the whole-table check on each table; how many are refused.
+    fn checks(&self, tables: &mut [Table]) -> usize;
+
+    /// Makes a work's calls; all answers.
+    fn answers(&self, work: &Work, tables: &mut [Table]) -> Vec<Answer>;
+}
+
+impl<I: Interface> Batches for I {
+    fn batch(&self, work: &Work, tables: &mut [Table]) -> usize {
+        let mut refused = 0;
+        make(self, work, tables, |answer| refused += usize::from(is_refused(answer)));
+        refused
+    }
+
+    fn checks(&self, tables: &mut [Table]) -> usize {
+        tables.iter().filter(|table| is_refused(self.read(opaque(table.view()), Reading::Sound))).count()
+    }
+
+    fn answers(&self, work: &Work, tables: &mut [Table]) -> Vec<Answer> {
+        let mut answers = Vec::new();
+        make(self, work, tables, |answer| answers.push(answer));
+        answers
     }
 }
 
-fn lookups(program: &dyn Interface, table: &Table, asked: &[(u64, u64)]) -> u64 {
-    let (paw, first, register) = (table.frame().paw, table.frame().first.0, table.slots()[0]);
-    let look = |&(kind, address): &(u64, u64)| program.lookup(paw, first, table.words(), register, 1, kind, address);
-    asked.iter().map(look).sum()
+/// Makes the calls and tells each answer.
+#[inline(always)]
+fn make<I: Interface>(program: &I, work: &Work, tables: &mut [Table], mut tell: impl FnMut(Answer)) {
+    match &work.calls {
+        Calls::Lookups(asked) => {
+            let view = tables[0].view();
+            let register = Register(view.slots[0]);
+            for &(kind, address) in asked {
+                tell(program.read(view, Reading::Lookup { register, privilege: 1, kind, address }));
+            }
+        }
+        Calls::One(Call::Reading(Reading::Sound)) => {
+            tables.iter().for_each(|table| tell(program.read(opaque(table.view()), Reading::Sound)));
+        }
+        Calls::One(call) => tables.iter_mut().for_each(|table| tell(Monitor::over(program).call(table, *call))),
+    }
 }
 
-pub fn sound(program: &dyn Interface, table: &Table) -> u64 {
-    program.sound(table.frame().paw, table.frame().first.0, black_box(table.words()), table.slots())
+fn is_refused(answer: Answer) -> bool {
+    matches!(answer, Answer::Refused(_))
 }
 
-fn one_edit(program: &dyn Interface, table: &mut Table, edit: &Edit) -> u64 {
-    let (paw, first, slots) = (table.frame().paw, table.frame().first.0, *table.slots());
-    let Edit { slot, start, length, permission, limit } = *edit;
-    let mut answer = [0; 5];
-    let words = table.words_mut();
-    let code = program.edit(paw, first, words, &slots, slot.0, start.0, length, permission.code(), limit, &mut answer);
-    black_box(&answer);
-    code
-}
-
-fn one_open(program: &dyn Interface, table: &mut Table) -> u64 {
-    let (paw, first, mut slots) = (table.frame().paw, table.frame().first.0, *table.slots());
-    let code = program.open(paw, first, table.words_mut(), &mut slots, 1, 6);
-    *table.slots_mut() = slots;
-    code
-}
-
-fn one_close(program: &dyn Interface, table: &mut Table) -> u64 {
-    let (paw, first, mut slots) = (table.frame().paw, table.frame().first.0, *table.slots());
-    let code = program.close(paw, first, table.words(), &mut slots, 0, &mut [0; 3]);
-    *table.slots_mut() = slots;
-    code
+/// The same value, of which the compiler knows nothing.
+#[inline]
+pub fn opaque<T>(value: T) -> T {
+    // SAFETY: no instruction at all.
+    unsafe { asm!("/* {} */", in(reg) &value, options(nostack, preserves_flags)) };
+    value
 }
 
 /// The bench of document 01 with fewer pages: PAW 32, from page 0x80000, slot 0 opened with SDID 5.
@@ -119,7 +137,7 @@ fn opened(paw: u64, first: u64, pages: usize) -> Table {
 }
 
 fn edit(start: u64, length: u64, permission: Permission) -> Edit {
-    Edit { slot: Slot(0), start: Address(start), length, permission, limit: 1536 }
+    Edit { slot: Slot(0), start: Address(start), length, permission, limit: MOST_STORES }
 }
 
 fn after(mut table: Table, edits: &[Edit]) -> Table {
@@ -143,8 +161,8 @@ pub fn lookup() -> Work {
         1 => 0x4000_0000 + random.below(0x0600_0000),
         _ => 0x4600_0000 + random.below(0x0200_0000),
     };
-    let asked = (0..LOOKUPS).map(|nth| (nth as u64 % 9, address())).collect();
-    Work { name: "lookup", what: "random addresses: flat, pieces, pages", table, call: Call::Lookups(asked) }
+    let calls = Calls::Lookups((0..LOOKUPS).map(|nth| (nth as u64 % 9, Address(address()))).collect());
+    Work { name: "lookup", what: "random addresses: flat, pieces, pages", table, calls }
 }
 
 /// 8 roots and 248 L1 pages at PAW 34, every field rw.
@@ -158,7 +176,7 @@ pub fn largest() -> Work {
         words[slot * PAGE_WORDS + nth * 16] = 4 << 44 | (first + page as u64);
     }
     let table = Table::from_parts(Frame { paw: 34, first: PageNumber(first) }, words, slots);
-    Work { name: "check", what: "whole table, 8 roots and 248 L1 pages", table, call: Call::Sound }
+    Work { name: "check", what: "whole table, 8 roots and 248 L1 pages", table, calls: Calls::One(Call::sound()) }
 }
 
 /// The five edits that have a goal, and a sixth: after the first page of a GiB, its other blocks are by
@@ -170,7 +188,7 @@ pub fn edits() -> Vec<Work> {
     let h = edit(0x4020_0000, 0x20_0000, Permission::None);
     let all = edit(0, 1 << 34, Permission::None);
     let next = edit(0x4200_0000, 0x1000, Permission::Rw);
-    let work = |name, what, table, edit| Work { name, what, table, call: Call::Edit(edit) };
+    let work = |name, what, table, edit| Work { name, what, table, calls: Calls::One(Call::edit(edit)) };
     vec![
         work("edit-page", "one page in a present L1 page (F)", after(bench(), &[c]), f),
         work("edit-new-page", "one page in a new L1 page (C)", bench(), c),
@@ -189,23 +207,27 @@ fn everywhere_rw() -> Table {
 
 /// A second domain beside case C's.
 pub fn open() -> Work {
-    Work { name: "open", what: "a second domain", table: case_c(), call: Call::Open }
+    let calls = Calls::One(Call::open(Slot(1), Sdid(6)));
+    Work { name: "open", what: "a second domain", table: case_c(), calls }
 }
 
 /// The one domain of case C.
 pub fn close() -> Work {
-    Work { name: "close", what: "the one domain", table: case_c(), call: Call::Close }
+    let calls = Calls::One(Call::close(Slot(0)));
+    Work { name: "close", what: "the one domain", table: case_c(), calls }
 }
 
 fn case_c() -> Table {
     after(bench(), &[edit(0x4000_0000, 0x1000, Permission::Rw)])
 }
 
-/// Both programs must give the same codes, words and slots, or there is nothing to measure.
-pub fn check_agreement(work: &Work, subject: Program, yardstick: Program) -> Result<(), String> {
-    let (mut left, mut right) = (work.tables(), work.tables());
-    let codes = [work.batch(subject.interface, &mut left), work.batch(yardstick.interface, &mut right)];
-    if codes[0] == codes[1] && left == right {
+/// Both programs must give the same answers, words and slots, or there is nothing to measure.
+pub fn check_agreement(work: &Work, subject: Subject, yardstick: Subject) -> Result<(), String> {
+    let made = |subject: Subject| {
+        let mut tables = work.tables();
+        (subject.program.answers(work, &mut tables), tables)
+    };
+    if made(subject) == made(yardstick) {
         return Ok(());
     }
     Err(format!("{}: {} and {} do not agree; run `mpt test`", work.name, subject.name, yardstick.name))

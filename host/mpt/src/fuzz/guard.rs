@@ -1,11 +1,12 @@
 //! Memory for a library to work on, with pages on both sides that may not be touched: a read or a
 //! write outside it ends the program.
 
-use std::ffi::{c_int, c_void};
+use std::cell::Cell;
+use std::os::raw::{c_int, c_void};
 use std::ptr;
 
 mod c {
-    use std::ffi::{c_int, c_void};
+    use std::os::raw::{c_int, c_void};
 
     extern "C" {
         pub fn mmap(at: *mut c_void, length: usize, may: c_int, flags: c_int, file: c_int, from: i64) -> *mut c_void;
@@ -29,7 +30,7 @@ pub struct Guarded {
 
 impl Guarded {
     pub fn new(most: usize) -> Guarded {
-        let most = (most * 8).next_multiple_of(PAGE) / 8;
+        let most = (most * 8 + PAGE - 1) / PAGE * PAGE / 8;
         // SAFETY: a new mapping; the pages before and after the room stay closed.
         unsafe {
             let all = c::mmap(ptr::null_mut(), most * 8 + 2 * PAGE, 0, PRIVATE_ANONYMOUS, -1, 0);
@@ -62,23 +63,25 @@ impl Guarded {
     }
 }
 
-/// What a program that ends by a signal says first.
-static mut LAST_WORDS: ([u8; 96], usize) = ([0; 96], 0);
+thread_local! {
+    /// What a thread that ends the program by a signal says first. It is plain memory of the thread, so
+    /// that a signal's handler may read it.
+    static LAST_WORDS: Cell<([u8; 96], usize)> = const { Cell::new(([0; 96], 0)) };
+}
 
-/// From now on, a crash writes this line.
+/// From now on, a crash of this thread writes this line.
 pub fn last_words(line: &str) {
-    // SAFETY: the program has one thread, and its signals come from what that thread does.
-    unsafe {
-        let count = line.len().min(96);
-        LAST_WORDS.0[..count].copy_from_slice(&line.as_bytes()[..count]);
-        LAST_WORDS.1 = count;
-    }
+    let mut bytes = [0; 96];
+    let count = line.len().min(96);
+    bytes[..count].copy_from_slice(&line.as_bytes()[..count]);
+    LAST_WORDS.with(|words| words.set((bytes, count)));
 }
 
 extern "C" fn crashed(_: c_int) {
-    // SAFETY: as above; both calls are allowed in a signal handler.
+    let (bytes, count) = LAST_WORDS.with(Cell::get);
+    // SAFETY: both calls are allowed in a signal handler, which runs in the thread that crashed.
     unsafe {
-        c::write(1, (&raw const LAST_WORDS.0).cast::<c_void>(), LAST_WORDS.1);
+        c::write(1, bytes.as_ptr().cast::<c_void>(), count);
         c::_exit(1)
     }
 }

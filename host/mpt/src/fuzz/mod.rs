@@ -5,14 +5,17 @@
 mod guard;
 mod values;
 
+use crate::answer::Reply;
 use crate::options::Options;
 use crate::output;
-use crate::programs::{proved_or, Program, PLAIN, SECOND};
+use crate::programs::{proved_or, Program, PLAIN, PROVED, SECOND};
 use crate::random::Random;
 use crate::run::DIFFERENT;
 use guard::Guarded;
-use std::time::{Duration, Instant};
-use values::Place;
+use mpt_monitor::{Address, Answer, Call, Frame, Reading, Register, Sdid, Slot, View, ViewMut, Writing, MOST_STORES};
+use std::sync::atomic::{AtomicBool, Ordering};
+use std::thread::{self, available_parallelism};
+use std::time::Instant;
 
 /// How long it runs if no --seconds is given.
 const SECONDS: u64 = 10;
@@ -20,42 +23,84 @@ const SECONDS: u64 = 10;
 const MOST: usize = 6 * 512;
 
 pub fn main(mut options: Options) -> Result<u8, String> {
-    let seconds = options.number("--seconds")?.unwrap_or(SECONDS);
+    let end = options.end_after("--seconds", SECONDS)?;
     let seed = options.number("--seed")?.unwrap_or(1);
-    let from = options.number("--round")?.unwrap_or(0);
+    let from = options.number("--round")?;
     options.end()?;
-    let (end, mut calls) = (Instant::now() + Duration::from_secs(seconds), 0);
-    let mut fuzz = Fuzz::new(proved_or(PLAIN));
+    proved_or(PLAIN);
     guard::catch_crashes();
-    for round in from.. {
-        guard::last_words(&format!("CRASHED: mpt fuzz --seed {seed} --round {round}\n"));
-        match fuzz.round(&mut Random::new(seed, round)) {
-            Ok(made) => calls += made,
-            Err(how) => {
-                output::line(format!("FAILED: mpt fuzz --seed {seed} --round {round}\n{how}"));
-                return Ok(DIFFERENT);
-            }
-        }
-        if Instant::now() >= end {
-            let rounds = round - from + 1;
-            output::line(format!(
-                "seed {seed}: {rounds} tables, {calls} calls with any values: no crash, all answers, words and slots agree"
-            ));
-            break;
-        }
+    // a round that is to be seen again comes first and alone
+    let threads = if from.is_some() { 1 } else { available_parallelism().map_or(1, |cores| cores.get() as u64) };
+    let from = from.unwrap_or(0);
+    let stop = AtomicBool::new(false);
+    let done: Vec<Done> = thread::scope(|scope| {
+        let work = |nth| (from + nth..).step_by(threads as usize);
+        let spawn = |nth| {
+            scope.spawn({
+                let stop = &stop;
+                move || rounds(seed, work(nth), end, stop)
+            })
+        };
+        let all: Vec<_> = (0..threads).map(spawn).collect();
+        all.into_iter().map(|thread| thread.join().expect("a thread ends by itself")).collect()
+    });
+    let failed = done.iter().filter_map(|done| done.failed.as_ref()).min_by_key(|(round, _)| *round);
+    if let Some((round, how)) = failed {
+        output::failed(DIFFERENT);
+        output::line(format!("FAILED: mpt fuzz --seed {seed} --round {round}\n{how}"));
+        return Ok(DIFFERENT);
     }
+    let sum = |of: fn(&Done) -> u64| done.iter().map(of).sum::<u64>();
+    let (rounds, calls) = (sum(|done| done.rounds), sum(|done| done.calls));
+    output::line(format!(
+        "seed {seed}: {rounds} tables, {calls} calls with any values: no crash, all answers, words and slots agree"
+    ));
     Ok(0)
 }
 
-/// The memory that the subject works on, and the other program's.
+/// What a thread has done.
+#[derive(Default)]
+struct Done {
+    rounds: u64,
+    calls: u64,
+    failed: Option<(u64, String)>,
+}
+
+/// These rounds, until the time is over or a round fails.
+fn rounds(seed: u64, rounds: impl Iterator<Item = u64>, end: Option<Instant>, stop: &AtomicBool) -> Done {
+    let mut fuzz = Fuzz::new(PROVED.unwrap_or(PLAIN));
+    let mut done = Done::default();
+    for round in rounds {
+        guard::last_words(&format!("CRASHED: mpt fuzz --seed {seed} --round {round}\n"));
+        match fuzz.round(&mut Random::new(seed, round)) {
+            Ok(made) => done.calls += made,
+            Err(how) => {
+                done.failed = Some((round, how));
+                stop.store(true, Ordering::Relaxed);
+            }
+        }
+        done.rounds += 1;
+        if stop.load(Ordering::Relaxed) || end.map_or(false, |end| Instant::now() >= end) {
+            break;
+        }
+    }
+    done
+}
+
+/// The memory that the subject works on.
 struct Fuzz {
     subject: Program,
     memory: Guarded,
     slots: Guarded,
 }
 
-/// One call: its name, its numbers, and the answer's parts.
-type Call = (&'static str, Vec<u64>);
+/// Where that memory lies: so many words, next to the closed page above them (`high`) or below.
+#[derive(Clone, Copy)]
+struct Place {
+    frame: Frame,
+    count: usize,
+    high: bool,
+}
 
 impl Fuzz {
     fn new(subject: Program) -> Fuzz {
@@ -64,105 +109,113 @@ impl Fuzz {
 
     /// A table of any kind and some calls on it; how many, or how the programs differ.
     fn round(&mut self, random: &mut Random) -> Result<u64, String> {
-        let place = values::place(random);
-        let (count, high) = (values::count(random, MOST), random.percent(80));
-        let mut words = vec![0; count];
-        values::fill(random, place, &mut words);
+        let frame = values::frame(random);
+        let place = Place { frame, count: values::count(random, MOST), high: random.percent(80) };
+        let mut words = vec![0; place.count];
+        values::fill(random, frame, &mut words);
         let (mut slots, tampered) = ([0; 8], random.percent(30));
         for slot in &mut slots {
             if tampered && random.percent(25) {
-                *slot = values::register(random, place);
+                *slot = values::register(random, frame);
             }
         }
-        self.memory.words(count, high).copy_from_slice(&words);
-        self.slots.words(8, high).copy_from_slice(&slots);
+        self.memory.words(place.count, place.high).copy_from_slice(&words);
+        self.slots.words(8, place.high).copy_from_slice(&slots);
         let calls = 1 + random.below(12);
         for _ in 0..calls {
-            let call = any_call(random, place, &slots);
-            let got = self.subject_call(place, count, high, &call);
-            let want = other_call(SECOND, place, &mut words, &mut slots, &call);
-            let after = (self.memory.words(count, high), self.slots.words(8, high));
+            let call = any_call(random, frame, &slots);
+            let got = self.subject_call(place, call);
+            let want = second_call(frame, &mut words, &mut slots, call);
+            let after = (self.memory.words(place.count, place.high), self.slots.words(8, place.high));
             if let Some(how) = difference((got, after.0, after.1), (want, &words, &slots)) {
-                return Err(format!("{place:x?}, {count} words: {call:x?}: {how}"));
+                return Err(format!("{frame:x?}, {} words: {call:x?}: {how}", place.count));
             }
         }
         Ok(calls)
     }
 
-    /// Calls that may not write are made on memory that can't be written.
-    fn subject_call(&mut self, place: Place, count: usize, high: bool, call: &Call) -> [u64; 6] {
-        let subject = self.subject;
-        let slots: &mut [u64; 8] = self.slots.words(8, high).try_into().expect("eight slots");
-        match call.0 {
-            "open" | "edit" => other_call(subject, place, self.memory.words(count, high), slots, call),
-            _ => self.memory.read_only(count, high, |words| reading_call(subject, place, words, slots, call)),
-        }
+    /// A call that writes no word works on words that can't be written. No call can write the slots:
+    /// the caller does, after it.
+    fn subject_call(&mut self, place: Place, call: Call) -> Answer {
+        let Place { frame, count, high } = place;
+        let (interface, memory) = (self.subject.interface, &mut self.memory);
+        let answer = self.slots.read_only(8, high, |slots| {
+            let slots = slots.try_into().expect("eight slots");
+            match call {
+                Call::Writing(call) => {
+                    interface.write(ViewMut { frame, words: memory.words(count, high), slots }, call)
+                }
+                Call::Reading(call) => {
+                    memory.read_only(count, high, |words| interface.read(View { frame, words, slots }, call))
+                }
+            }
+        });
+        write_slot(self.slots.words(8, high), call, answer);
+        answer
     }
 }
 
-/// A call by its name, with any arguments; some of a slot's own numbers.
-fn any_call(random: &mut Random, place: Place, slots: &[u64; 8]) -> Call {
+/// A call with any arguments; some of a slot's own numbers.
+fn any_call(random: &mut Random, frame: Frame, slots: &[u64; 8]) -> Call {
     let open = (0..8).find(|&slot| slots[slot as usize] != 0);
     let slot = match open {
         Some(slot) if random.percent(60) => slot,
         _ if random.percent(90) => random.below(9),
         _ => values::any(random),
     };
-    let register = if random.percent(60) { slots[slot as usize % 8] } else { values::register(random, place) };
+    let register = if random.percent(60) { slots[slot as usize % 8] } else { values::register(random, frame) };
     let sdid = if random.percent(80) { random.below(66) } else { values::any(random) };
     let code = |random: &mut Random| if random.percent(90) { random.below(4) } else { values::any(random) };
     match random.below(8) {
-        3.. if open.is_none() && random.percent(50) => ("open", vec![slot, sdid]),
-        0 => ("open", vec![slot, sdid]),
-        1 => ("close", vec![slot]),
-        2 => ("sound", vec![]),
-        3 | 4 => {
-            let kind = if random.percent(90) { random.below(10) } else { values::any(random) };
-            ("lookup", vec![register, code(random), kind, values::address(random, place)])
-        }
-        _ => {
-            let (start, length) = (values::address(random, place), values::length(random));
-            let limit = if random.percent(50) { 1536 } else { values::any(random) };
-            ("edit", vec![slot, start, length, code(random), limit])
-        }
+        3.. if open.is_none() && random.percent(50) => Call::open(Slot(slot), Sdid(sdid)),
+        0 => Call::open(Slot(slot), Sdid(sdid)),
+        1 => Call::close(Slot(slot)),
+        2 => Call::sound(),
+        3 | 4 => Call::Reading(Reading::Lookup {
+            register: Register(register),
+            privilege: code(random),
+            kind: if random.percent(90) { random.below(10) } else { values::any(random) },
+            address: Address(values::address(random, frame)),
+        }),
+        _ => Call::Writing(Writing::Edit {
+            slot: Slot(slot),
+            start: Address(values::address(random, frame)),
+            length: values::length(random),
+            permission: code(random),
+            limit: if random.percent(50) { MOST_STORES } else { values::any(random) },
+        }),
     }
 }
 
-/// A call that writes no word.
-fn reading_call(program: Program, place: Place, words: &[u64], slots: &mut [u64; 8], call: &Call) -> [u64; 6] {
-    let Place { paw, first } = place;
-    let (name, a) = call;
-    let mut fence = [0; 3];
-    let code = match *name {
-        "lookup" => program.interface.lookup(paw, first, words, a[0], a[1], a[2], a[3]),
-        "close" => program.interface.close(paw, first, words, slots, a[0], &mut fence),
-        _ => program.interface.sound(paw, first, words, slots),
+fn second_call(frame: Frame, words: &mut [u64], slots: &mut [u64; 8], call: Call) -> Answer {
+    let answer = match call {
+        Call::Writing(call) => SECOND.interface.write(ViewMut { frame, words, slots }, call),
+        Call::Reading(call) => SECOND.interface.read(View { frame, words, slots }, call),
     };
-    [code, fence[0], fence[1], fence[2], 0, 0]
+    write_slot(slots, call, answer);
+    answer
 }
 
-/// Any call.
-fn other_call(program: Program, place: Place, words: &mut [u64], slots: &mut [u64; 8], call: &Call) -> [u64; 6] {
-    let Place { paw, first } = place;
-    let (name, a) = call;
-    let mut made = [0; 5];
-    let code = match *name {
-        "open" => program.interface.open(paw, first, words, slots, a[0], a[1]),
-        "edit" => program.interface.edit(paw, first, words, slots, a[0], a[1], a[2], a[3], a[4], &mut made),
-        _ => return reading_call(program, place, words, slots, call),
-    };
-    [code, made[0], made[1], made[2], made[3], made[4]]
+fn write_slot(slots: &mut [u64], call: Call, answer: Answer) {
+    if let Some((slot, register)) = call.slot_after(answer) {
+        slots[slot.0 as usize] = register.0;
+    }
 }
 
 /// How two programs differ after a call: in their answers, their words or their slots.
-fn difference(got: ([u64; 6], &[u64], &[u64]), want: ([u64; 6], &[u64], &[u64])) -> Option<String> {
+fn difference(got: (Answer, &[u64], &[u64]), want: (Answer, &[u64], &[u64])) -> Option<String> {
+    if got.0 != want.0 {
+        return Some(format!(
+            "the answer is `{}`, and the second program's `{}`",
+            Reply::Call(got.0),
+            Reply::Call(want.0)
+        ));
+    }
     let first = |what, got: &[u64], want: &[u64]| {
         let at = (0..want.len()).find(|&at| got[at] != want[at])?;
         Some(format!("{what} {at} is {:#x}, and the second program's {:#x}", got[at], want[at]))
     };
-    first("the answer's part", &got.0, &want.0)
-        .or_else(|| first("word", got.1, want.1))
-        .or_else(|| first("slot", got.2, want.2))
+    first("word", got.1, want.1).or_else(|| first("slot", got.2, want.2))
 }
 
 #[cfg(test)]
@@ -177,8 +230,8 @@ mod tests {
 
     #[test]
     fn a_difference_is_named() {
-        let want = ([1, 2, 3, 4, 5, 6], vec![7; 512], vec![8; 8]);
-        let named = |got: &([u64; 6], Vec<u64>, Vec<u64>)| {
+        let want = (Answer::Sound, vec![7; 512], vec![8; 8]);
+        let named = |got: &(Answer, Vec<u64>, Vec<u64>)| {
             difference((got.0, &got.1, &got.2), (want.0, &want.1, &want.2)).unwrap_or_default()
         };
         let mut got = want.clone();
@@ -187,7 +240,7 @@ mod tests {
         assert!(named(&got).starts_with("slot 7 is 0x9, "));
         got.1[511] = 9;
         assert!(named(&got).starts_with("word 511 is 0x9, "));
-        got.0[2] = 9;
-        assert!(named(&got).starts_with("the answer's part 2 is 0x9, "));
+        got.0 = Answer::refused(3);
+        assert_eq!(named(&got), "the answer is `refused 3`, and the second program's `sound`");
     }
 }

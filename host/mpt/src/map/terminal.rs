@@ -1,36 +1,51 @@
 //! The picture in letters, with colour where it is a terminal.
 
-use super::picture::{Cell, Domain, Picture, Use, GIB_BLOCKS};
+use super::block::{Block, Form, Shade};
+use super::picture::{Domain, Picture, Use, GIB_BLOCKS};
+use super::section::{ranges, sections, summary, verdict, Entry, Section};
+use mpt_monitor::Permission;
 use std::fmt::Write;
 
 /// Lent pages in a row.
-const ROW_PAGES: usize = 32;
+const ROW_PAGES: usize = 16;
+/// Lines of a list.
+const MOST: usize = 24;
 
-/// Letters with what they mean and their colour (a background of the terminal's 256). The first
-/// four are the 1G types, the next four TYPE 6 with sixteen pieces alike, by permission.
-const LETTERS: [(char, &str, u8); 11] = [
-    ('-', "none", 238),
-    ('x', "rx", 24),
-    ('w', "rw", 28),
-    ('a', "rwx", 130),
-    ('_', "none, by pieces of 2 MiB that are alike", 238),
-    ('X', "rx, likewise", 24),
-    ('W', "rw, likewise", 28),
-    ('A', "rwx, likewise", 130),
-    ('m', "by pieces of 2 MiB that differ", 96),
-    ('p', "by pages", 136),
-    ('!', "faults: a bad entry or a page not lent", 160),
-];
+/// Colours, by their numbers in a terminal's 256.
+const GREY: u8 = 238;
+const RED: u8 = 160;
 
-fn letter(cell: &Cell) -> char {
-    let at = match (cell, cell.one_permission()) {
-        (Cell::Whole(permission), _) => *permission as usize,
-        (Cell::Pieces(_), Some(permission)) => 4 + permission as usize,
-        (Cell::Pieces(_), None) => 8,
-        (Cell::Pages(..), _) => 9,
-        (Cell::Faults, _) => 10,
-    };
-    LETTERS[at].0
+fn colour(permission: Permission) -> u8 {
+    [GREY, 24, 28, 130][permission as usize]
+}
+
+/// The letter of a permission: small where all pages have it, else a capital.
+pub fn shade_letter(shade: Shade) -> char {
+    let letter = ['.', 'x', 'w', 'a'][shade.strongest as usize];
+    if shade.mixed {
+        letter.to_ascii_uppercase()
+    } else {
+        letter
+    }
+}
+
+/// The letter of a block.
+pub fn letter(block: &Block) -> char {
+    match (block.form, block.shade.strongest) {
+        (Form::Bad, Permission::None) => '!',
+        _ => shade_letter(block.shade),
+    }
+}
+
+/// The mark of a form.
+fn mark(form: Form) -> char {
+    match form {
+        Form::Whole => ' ',
+        Form::Pieces => ':',
+        Form::Pages { reserved: false, .. } => '*',
+        Form::Pages { reserved: true, .. } | Form::Bad => '!',
+        Form::Bare => '=',
+    }
 }
 
 struct Ink {
@@ -39,34 +54,48 @@ struct Ink {
 
 impl Ink {
     fn paint(&self, text: &str, colour: u8) -> String {
+        self.code(text, &format!("97;48;5;{colour}"))
+    }
+
+    fn alarm(&self, text: &str) -> String {
+        self.code(text, "1;31")
+    }
+
+    fn code(&self, text: &str, code: &str) -> String {
         if self.colour {
-            format!("\x1b[97;48;5;{colour}m{text}\x1b[0m")
+            format!("\x1b[{code}m{text}\x1b[0m")
         } else {
             text.to_string()
         }
     }
 
-    /// A letter in the colour of its meaning.
-    fn letter(&self, letter: char) -> String {
-        let colour = LETTERS.iter().find(|(known, ..)| *known == letter).map_or(0, |&(.., colour)| colour);
-        self.paint(&letter.to_string(), colour)
+    fn block(&self, block: &Block) -> String {
+        let colour = if letter(block) == '!' { RED } else { colour(block.shade.strongest) };
+        self.paint(&format!("{}{}", letter(block), mark(block.form)), colour)
     }
 
     fn page(&self, page: &Use) -> String {
         match page {
-            Use::Free => self.paint("..", 238),
+            Use::Free => self.paint("..", GREY),
             Use::Root(slot) => self.paint(&format!("R{slot}"), 24),
-            Use::L1(slot) => self.paint(&format!("L{slot}"), 136),
-            Use::Twice => self.paint("!!", 160),
+            Use::L1(slot) => self.paint(&format!("L{slot}"), 130),
+            Use::Twice => self.paint("!!", RED),
         }
     }
 }
 
-pub fn draw(picture: &Picture, colour: bool) -> String {
-    let ink = Ink { colour };
-    let mut text = format!("{}\n{}\n", picture.summary(), picture.verdict());
+/// Lists are cut short unless the `whole` is asked for.
+pub fn draw(picture: &Picture, colour: bool, whole: bool) -> String {
+    let (ink, most) = (Ink { colour }, if whole { None } else { Some(MOST) });
+    let verdict = verdict(picture);
+    let verdict = if picture.is_fine() { verdict } else { ink.alarm(&verdict) };
+    let mut text = format!("{}\n{verdict}\n", summary(picture));
+    for section in sections(picture, most) {
+        text += &section_text(&section, &ink);
+    }
     for domain in &picture.domains {
         text += &domain_text(domain, &ink);
+        text += &entries_text(&ranges(domain, most), &ink);
     }
     if picture.domains.is_empty() {
         text += "\nNo slot is open.\n";
@@ -74,17 +103,48 @@ pub fn draw(picture: &Picture, colour: bool) -> String {
     text + &pages_text(picture, &ink) + &legend(&ink)
 }
 
+fn section_text(section: &Section, ink: &Ink) -> String {
+    let title = if section.alarm { ink.alarm(&section.title) } else { section.title.clone() };
+    format!("\n{title}\n{}", entries_text(section, ink))
+}
+
+fn entries_text(section: &Section, ink: &Ink) -> String {
+    let width = |text: fn(&Entry) -> &String| section.entries.iter().map(|entry| text(entry).len()).max().unwrap_or(0);
+    let (place, size) = (width(|entry| &entry.place), width(|entry| &entry.size));
+    let mut text = String::new();
+    for entry in &section.entries {
+        let mut line = String::from(" ");
+        if place > 0 {
+            let _ = write!(line, " {:<place$} ", entry.place);
+        }
+        if size > 0 {
+            let _ = write!(line, " {:>11} ", entry.size);
+        }
+        let line = format!("{line} {}", entry.what);
+        let _ = writeln!(text, "{}", if section.alarm { ink.alarm(&line) } else { line });
+    }
+    if let Some(rest) = section.rest(" (--whole lists them)") {
+        let _ = writeln!(text, "  {rest}");
+    }
+    text
+}
+
 fn domain_text(domain: &Domain, ink: &Ink) -> String {
     let register = domain.register;
     let (sdid, root) = (register.sdid().0, register.root().0);
     let mut text = format!("\nslot {}: SDID {sdid}, root page {root:#x}, register {register}\n", domain.slot);
-    let marks: String = (0..GIB_BLOCKS).step_by(4).map(|block| format!("{block:<4}")).collect();
-    let _ = writeln!(text, "{:>23}{}", "", marks.trim_end());
+    let marks: String = (0..GIB_BLOCKS as u64).step_by(8).map(|block| format!("{:<16}", offset(block))).collect();
+    let _ = writeln!(text, "{:>13}{}", "", marks.trim_end());
     for (gib, blocks) in domain.blocks.chunks(GIB_BLOCKS).enumerate() {
-        let cells: String = blocks.iter().map(|cell| ink.letter(letter(cell))).collect();
-        let _ = writeln!(text, "  GiB {gib:<2}  0x{:09x}  {cells}", (gib as u64) << 30);
+        let cells: String = blocks.iter().map(|block| ink.block(block)).collect();
+        let _ = writeln!(text, "0x{:09x}  {}", (gib as u64) << 30, cells.trim_end());
     }
     text
+}
+
+/// How far a block's start is above its GiB's.
+fn offset(block: u64) -> String {
+    format!("+0x{:08x}", block << 25)
 }
 
 fn pages_text(picture: &Picture, ink: &Ink) -> String {
@@ -98,21 +158,22 @@ fn pages_text(picture: &Picture, ink: &Ink) -> String {
 }
 
 fn legend(ink: &Ink) -> String {
-    let mut text = "\na cell is a block of 32 MiB\n".to_string();
-    for (letter, meaning, _) in LETTERS {
-        let _ = writeln!(text, "  {}  {meaning}", ink.letter(letter));
-    }
-    let pages = [
-        (Use::Root(0), "root of slot 0"),
-        (Use::L1(0), "L1 page of slot 0"),
-        (Use::Free, "free"),
-        (Use::Twice, "used twice"),
-    ];
-    text += "a lent page is\n";
-    for (page, meaning) in pages {
-        let _ = writeln!(text, "  {} {meaning}", ink.page(&page));
-    }
-    text
+    let names = [(". ", "none"), ("x ", "rx"), ("w ", "rw"), ("a ", "rwx")];
+    let cells = names.iter().zip(Permission::ALL);
+    let cells: Vec<String> = cells.map(|((cell, name), each)| ink.paint(cell, colour(each)) + " " + name).collect();
+    format!(
+        "\na cell is a block of 32 MiB, a row is a GiB. The letter is the strongest permission in it:
+  {}
+  small where all of the block has it; X W A where some of it has it and the rest has less
+the mark after it is the form: blank by a 1G type, : by pieces of 2 MiB, * by pages,
+  ! a bad entry, reserved bits or a page that is not lent, = Bare
+a lent page is {} root of slot 0, {} L1 page of slot 0, {} free, {} used twice\n",
+        cells.join("  "),
+        ink.page(&Use::Root(0)),
+        ink.page(&Use::L1(0)),
+        ink.page(&Use::Free),
+        ink.page(&Use::Twice),
+    )
 }
 
 #[cfg(test)]
@@ -120,24 +181,57 @@ mod tests {
     use super::super::picture::tests::picture;
     use super::*;
 
+    const LINES: [&str; 8] = [
+        "frame 31 0x40000 3",
+        "open 2 9",
+        "edit 2 0 0x40000000 rwx 1536",
+        "edit 2 0x42000000 0x1000 rw 1536",
+        "edit 2 0x41e00000 0x200000 rx 1536",
+        "poke 0 0x100000000000",
+        "poke 1 0x200000000000",
+        "poke 2 0x500000000000",
+    ];
+
     #[test]
-    fn a_row_has_a_letter_for_each_block() {
-        let picture = picture(&[
-            "frame 31 0x40000 3",
-            "open 2 9",
-            "edit 2 0 0x40000000 rwx 1536",
-            "edit 2 0x42000000 0x1000 rw 1536",
-            "edit 2 0x41e00000 0x200000 rx 1536",
-            "poke 0 0x100000000000",
-            "poke 1 0x200000000000",
-            "poke 2 0x500000000000",
-        ]);
-        let text = draw(&picture, false);
-        let rows: Vec<&str> = text.lines().filter(|line| line.starts_with("  GiB")).collect();
-        assert_eq!(rows[0], format!("  GiB 0   0x000000000  xw!{}", "a".repeat(29)));
-        assert_eq!(rows[1], format!("  GiB 1   0x040000000  mp{}", "_".repeat(30)));
+    fn a_row_has_a_letter_and_a_mark_for_each_block() {
+        let picture = picture(&LINES);
+        let text = draw(&picture, false, false);
+        let rows: Vec<&str> = text.lines().filter(|line| line.starts_with("0x")).collect();
+        assert_eq!(rows[0], format!("0x000000000  x w !!{}", "a ".repeat(29).trim_end()));
+        assert_eq!(rows[1], format!("0x040000000  X:W*{}", ".:".repeat(30)));
         assert!(text.contains("  0x040000  R2 L2 ..\n"));
         assert!(text.contains("NOT SOUND"));
-        assert!(!text.contains('\x1b') && draw(&picture, true).contains("\x1b["));
+        assert!(!text.contains('\x1b') && draw(&picture, true, false).contains("\x1b["));
+        assert_eq!(text.lines().find(|line| line.chars().count() > 100), None);
+    }
+
+    #[test]
+    fn below_a_domain_stand_its_ranges() {
+        let text = draw(&picture(&LINES), false, false);
+        let ranges: Vec<&str> = text.lines().filter(|line| line.starts_with("  0x0") && line.contains("iB")).collect();
+        let wanted = [
+            "  0x040000000 to 0x040002fff       12 KiB  open to no domain",
+            "  0x000000000 to 0x001ffffff       32 MiB  rx",
+            "  0x002000000 to 0x003ffffff       32 MiB  rw",
+            "  0x006000000 to 0x03fffffff      928 MiB  rwx",
+            "  0x041e00000 to 0x041ffffff        2 MiB  rx",
+            "  0x042000000 to 0x042000fff        4 KiB  rw",
+        ];
+        assert_eq!(ranges, wanted);
+    }
+
+    #[test]
+    fn the_longest_lists_are_cut_short_unless_the_whole_is_asked_for() {
+        // two domains with every other page of a block, by the fields of an L1 page
+        let mut lines = vec!["frame 30 0x1000 4".to_string(), "open 0 1".to_string(), "open 1 2".to_string()];
+        lines.extend((0..2).map(|root| format!("poke {} {:#x}", root * 512, 0x4000_0000_1002u64 + root)));
+        lines.extend((1024..2048).map(|word| format!("poke {word} 0x0202020202020202")));
+        let lines: Vec<&str> = lines.iter().map(String::as_str).collect();
+        let picture = picture(&lines);
+        let text = draw(&picture, false, false);
+        assert!(text.lines().count() < 60, "{text}");
+        assert!(text.contains("  0x000000000 to 0x001ffefff  rw at most, in 4,096 ranges"), "{text}");
+        assert!(text.contains("rw: slots 0 1 at most, in 4,096 ranges"), "{text}");
+        assert!(draw(&picture, false, true).lines().count() > 3 * 4096);
     }
 }

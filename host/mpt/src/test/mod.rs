@@ -1,49 +1,67 @@
 //! `mpt test`: random sequences of calls on all programs at hand.
 
+mod aim;
+mod bounds;
+mod class;
 mod cuts;
 mod damage;
+mod edits;
+mod forms;
+mod frames;
 mod generate;
+mod layout;
+mod met;
 mod outside;
+mod places;
 mod reading;
+mod report;
+mod rules;
+mod segments;
+mod sequence;
+mod start;
+mod sweep;
 mod tally;
 mod trial;
+mod workers;
 
-use crate::command::Command;
 use crate::options::Options;
 use crate::output;
-use crate::programs::{self, Program};
-use crate::random::Random;
+use crate::programs;
 use crate::run::DIFFERENT;
-use generate::Places;
-use std::io::{IsTerminal, Write};
+use std::io::Write;
+use std::thread::available_parallelism;
 use std::time::{Instant, SystemTime};
-use tally::Tally;
-use trial::{catching_panics, Failure, Trial};
+use workers::Plan;
 
 /// Calls made on each program if no --count is given.
 const COUNT: u64 = 200_000;
 
 pub fn main(mut options: Options) -> Result<u8, String> {
     let seed = options.number("--seed")?.unwrap_or_else(seed_of_the_clock);
-    let count = options.number("--count")?.unwrap_or(COUNT);
+    let sequence = options.number("--sequence")?;
+    let count = options.number("--count")?.unwrap_or(if sequence.is_some() { 0 } else { COUNT });
+    let cores = available_parallelism().map_or(1, |cores| cores.get() as u64);
+    let threads = options.number("--threads")?.unwrap_or(cores).clamp(1, 64) as usize;
     options.end()?;
-    let programs = programs::all();
-    let names: Vec<&str> = programs.iter().map(|program| program.name).collect();
-    output::line(format!("seed {seed}: {count} calls on each of {}", names.join(", ")));
+    let names: Vec<&str> = programs::all().iter().map(|program| program.name).collect();
+    let asked = match sequence {
+        Some(sequence) => format!("sequence {sequence}"),
+        None => format!("{count} calls"),
+    };
+    output::line(format!("seed {seed}: {asked} on each of {}", names.join(", ")));
     let start = Instant::now();
-    let mut tally = Tally::default();
-    for sequence in 0.. {
-        let mut random = Random::new(seed, sequence);
-        if let Err(failure) = catching_panics(|| run(&programs, &mut random, &mut tally)) {
-            return Ok(report(seed, sequence, &failure));
-        }
-        show_progress(tally.calls, count);
-        if tally.calls >= count {
-            break;
-        }
+    let threads = if sequence.is_some() { 1 } else { threads };
+    let plan = Plan { seed, from: sequence.unwrap_or(0), count, threads };
+    let (tally, failed) = workers::run(programs::all, plan, |calls| show_progress(calls, count));
+    let (status, lines) = match failed {
+        Some(failed) => (DIFFERENT, report::failed(seed, &tally, &failed)),
+        None => report::passed(&tally, count, start.elapsed().as_secs_f64()),
+    };
+    if status != 0 {
+        output::failed(status);
     }
-    summary(&tally, start.elapsed().as_secs_f64());
-    Ok(0)
+    lines.iter().for_each(output::line);
+    Ok(status)
 }
 
 fn seed_of_the_clock() -> u64 {
@@ -52,118 +70,14 @@ fn seed_of_the_clock() -> u64 {
 }
 
 fn show_progress(calls: u64, count: u64) {
-    let mut error = std::io::stderr();
-    if error.is_terminal() {
+    if output::is_terminal(2) {
         let done = (calls.min(count) * 40 / count.max(1)) as usize;
         let end = if calls >= count { "\n" } else { "" };
-        let _ = write!(error, "\r[{}{}] {calls} of {count} calls{end}", "#".repeat(done), "-".repeat(40 - done));
-    }
-}
-
-fn summary(tally: &Tally, seconds: f64) {
-    let Tally { calls, cuts, .. } = tally;
-    output::line(format!(
-        "{calls} calls agree in every answer, word and slot; {cuts} cuts keep demand 3; {seconds:.1} s"
-    ));
-    for (answer, times) in tally.answers() {
-        output::line(format!("{times:>10}  {answer}"));
-    }
-}
-
-fn report(seed: u64, sequence: u64, failure: &Failure) -> u8 {
-    output::line(format!("\nFAILED with seed {seed}, sequence {sequence}: {}", failure.what));
-    output::line("# the lines from here on are for `mpt run FILE --both`");
-    failure.script.iter().for_each(output::line);
-    DIFFERENT
-}
-
-/// One sequence: a frame, some domains, and then anything.
-fn run(programs: &[Program], random: &mut Random, tally: &mut Tally) -> Result<(), Failure> {
-    let mut trial = Trial::new(programs);
-    trial.obey(generate::frame(random))?;
-    let places = Places::new(random, trial.table());
-    for _ in 0..1 + random.below(4) {
-        let open = generate::open(random, trial.table());
-        trial.obey(open)?;
-    }
-    for _ in 0..10 + random.below(30) {
-        step(&mut trial, programs, random, &places)?;
-    }
-    tally.add(&trial.tally);
-    Ok(())
-}
-
-fn step(trial: &mut Trial, programs: &[Program], random: &mut Random, places: &Places) -> Result<(), Failure> {
-    let table = trial.table();
-    match random.below(1000) {
-        0..=99 => {
-            let edit = generate::edit(random, table, places);
-            return cuts::some_cuts(trial, random, places, edit);
-        }
-        100 => {
-            let edit = generate::edit(random, table, places);
-            return cuts::every_cut(trial, edit);
-        }
-        101..=219 => {
-            let writes = damage::reshape(random, table, places);
-            return writes.into_iter().try_for_each(|write| trial.obey(write).map(drop));
-        }
-        220..=279 => return damaged(trial, random, places),
-        280..=299 if reading::frame(table).within_bounds(table.words()) => {
-            return programs.iter().try_for_each(|program| trial.check(outside::check(program, random, table)));
-        }
-        _ => {}
-    }
-    let call = call(trial, random, places);
-    trial.obey(call).map(drop)
-}
-
-/// Any call.
-fn call(trial: &Trial, random: &mut Random, places: &Places) -> Command {
-    let table = trial.table();
-    match random.below(10) {
-        0 => generate::open(random, table),
-        1 if random.percent(60) => generate::close(random, table),
-        1..=5 => Command::Edit(generate::edit(random, table, places)),
-        _ => generate::lookup(random, table, places),
-    }
-}
-
-/// Damage, some calls on the damaged table, and mostly repair.
-fn damaged(trial: &mut Trial, random: &mut Random, places: &Places) -> Result<(), Failure> {
-    let write = damage::damage(random, trial.table(), places);
-    let undo = damage::undo(trial.table(), &write);
-    trial.obey(write)?;
-    for _ in 0..1 + random.below(4) {
-        let call = call(trial, random, places);
-        trial.obey(call)?;
-    }
-    if random.percent(90) {
-        trial.obey(undo)?;
-    }
-    Ok(())
-}
-
-#[cfg(test)]
-mod tests {
-    use super::*;
-
-    #[test]
-    fn a_short_run_meets_every_kind_of_answer() {
-        let mut tally = Tally::default();
-        for sequence in 0.. {
-            let outcome = run(&programs::all(), &mut Random::new(1, sequence), &mut tally);
-            assert!(outcome.is_ok(), "sequence {sequence}");
-            if tally.calls > 6000 {
-                break;
-            }
-        }
-        let met: Vec<&str> = tally.answers().map(|(answer, _)| answer).collect();
-        let wanted = ["allowed", "closed", "opened", "edited all, fence address", "edited all, fence domain"];
-        let cut = ["edited all, fence none", "edited part, fence domain", "edited part, fence none"];
-        let refusals = (1..=8).map(|number| format!("refused {number}"));
-        let faults = [1, 5, 7].map(|cause| format!("fault {cause}"));
-        let all = wanted.into_iter().chain(cut).map(str::to_string).chain(refusals).chain(faults);
-        all.for_each(|answer| assert!(met.contains(&answer.as_str()), "{answer} was never met"));
+        let _ = write!(
+            std::io::stderr(),
+            "\r[{}{}] {calls} of {count} calls{end}",
+            "#".repeat(done),
+            "-".repeat(40 - done)
+        );
     }
 }

@@ -1,3 +1,4 @@
+-- `edit::block::flat_blocks` meets its contract: in a GiB of one permission each block has one entry to store, so the row's stores are its blocks'.
 use mathlib.Core.Path.{_≡_, sym, ap, ap₂, _∙_}
 use mathlib.Core.List.{List}
 use Prim.Native.Nat.{ℕ, _+_, _-_, _*_, _%_, _≤_, _<_}
@@ -5,7 +6,7 @@ use native.Mathlib.Omega.{arith}
 use lib.ListN.{drop}
 use Rattle.edit.proofs.BlockRows.{row-stores, row-pages, flat-entry}
 use Rattle.entries.specs.Rows.{rowStores}
-use Rattle.edit.specs.Over.{storesOver}
+use Rattle.edit.specs.Steps.{storesOver}
 use Rattle.entries.specs.Ahead.{Ahead}
 use Rattle.entries.proofs.Order.{ahead-of}
 use Rattle.entries.specs.Run.{run}

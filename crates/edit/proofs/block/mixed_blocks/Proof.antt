@@ -1,3 +1,4 @@
+-- `edit::block::mixed_blocks` meets its contract: outside the range a block without an L1 page has one entry to store; if the first one has such a page, nothing was stored yet.
 use mathlib.Core.Path.{_≡_, sym, ap, _∙_, subst}
 use mathlib.Core.List.{List, headD}
 use Prim.Native.Nat.{ℕ, _+_, _-_, _%_, _^_, _≤_, _<_}
@@ -5,8 +6,8 @@ use native.Mathlib.Omega.{arith}
 use lib.ListN.{drop, getD}
 use Rattle.edit.proofs.BlockRows.{Entrywise, ahead-over, row-stores, row-pages, pieces-entry}
 use Rattle.entries.proofs.RowLaws.{row-none}
-use Rattle.edit.specs.Kinds.{Fresh}
-use Rattle.edit.specs.Over.{Did, storesOver}
+use Rattle.edit.specs.Blocks.{HasNewPage}
+use Rattle.edit.specs.Steps.{Advanced, storesOver}
 use Rattle.entries.specs.Ahead.{Ahead}
 use Rattle.entries.proofs.Order.{ahead-of}
 use Rattle.entries.specs.Rows.{rowStores, piecesWord, PiecesAhead}
@@ -86,7 +87,7 @@ one-block-requires c κs =
     let a = s .args in
     subst
     (λ (x : List ℕ). Rooted (frameOf (a .edit .f) x) x (a .edit .root .0) × (a .b < blocks (frameOf (a .edit .f) x)) × Fair (a .edit .q) × (a .gib .p < 4) × (a .next < 2 ^ 32)
-    × Fresh (frameOf (a .edit .f) x) x (requestOf (a .edit .q)) (a .edit .root .0) (a .gib) (a .b) (headD (drop (a .next) (freeList (a .free))) 0)
+    × HasNewPage (frameOf (a .edit .f) x) x (requestOf (a .edit .q)) (a .edit .root .0) (a .gib) (a .b) (headD (drop (a .next) (freeList (a .free))) 0)
     × Ahead x (storesOver (frameOf (a .edit .f) x) x (requestOf (a .edit .q)) (a .edit .root .0) (a .gib) 1 (a .b) (drop (a .next) (freeList (a .free)))))
     (sym (nothing t)) (s .pre .0, omega (arith, s .pre .1), s .pre .2, s .pre .3, s .pre .4, s .pre .5, ahead-over _ _ _ _ _ 1 (32 - a .b % 32) (a .b) _ (omega arith) (s .pre .7))
 
@@ -97,7 +98,7 @@ returns : tie.Need-returns
 returns c =
     let t = c .before .before .before .before in
     let a = t .before .before .before .before .before .before .before .before .before .before .args in
-    subst (λ (x : List ℕ). Did (frameOf (a .edit .f) x) x (requestOf (a .edit .q)) (a .edit .root .0) (a .gib) (a .b) (freeList (a .free)) (a .next) (a .left) (c .before .before .one-block .result) (c .before .before .one-block .last .1 .0))
+    subst (λ (x : List ℕ). Advanced (frameOf (a .edit .f) x) x (requestOf (a .edit .q)) (a .edit .root .0) (a .gib) (a .b) (freeList (a .free)) (a .next) (a .left) (c .before .before .one-block .result) (c .before .before .one-block .last .1 .0))
     (nothing t) (c .before .before .one-block .ensures)
 
 same-length-2 : tie.Need-same-length-2

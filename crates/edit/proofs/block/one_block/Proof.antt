@@ -1,3 +1,4 @@
+-- `edit::block::one_block` meets its contract: the form, the page and the stores that the code takes are those of the block.
 use mathlib.Core.Path.{_≡_, refl, sym, ap, ap₂, _∙_, subst}
 use mathlib.Core.Bool.{Bool, true}
 use mathlib.Core.List.{List, headD}
@@ -10,11 +11,11 @@ use Rattle.model.specs.Frame.{lent}
 use borrow.Author.Needs.{needs}
 use Rattle.edit.proofs.Facts.{form-encodes}
 use Rattle.edit.proofs.BlockRows.{over-one, pages-one}
-use Rattle.edit.specs.Kinds.{Encodes, storesAt}
-use Rattle.edit.specs.Over.{storesOver}
+use Rattle.edit.specs.Blocks.{Encodes, storesAt}
+use Rattle.edit.specs.Steps.{storesOver}
 use Rattle.entries.proofs.Order.{ahead-of}
 use Rattle.entries.specs.Run.{run}
-use Rattle.forms.specs.Kinds.{formAt}
+use Rattle.forms.specs.Permissions.{formAt}
 use Rattle.model.specs.Entry.{Entry}
 use Rattle.model.specs.Numbers.{if_then_else_}
 use Rattle.types.specs.Views.{entryOf, requestOf, formOf, freeList}

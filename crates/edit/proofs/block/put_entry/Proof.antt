@@ -1,3 +1,4 @@
+-- `edit::block::put_entry` meets its contract: the word that is stored is the entry's.
 use mathlib.Core.Path.{_≡_, refl, sym, ap, ap₂, _∙_, subst}
 use mathlib.Core.List.{List, [], _∷_}
 use Prim.Native.Nat.{ℕ, _+_}

@@ -69,9 +69,16 @@ link-table-requires c κs =
     let s = c .before .before .before in
     let a = s .args in
     let plain = plain-here (c .before) in
-    let new = s .pre .4 (plain-needs (entryOf (a .e)) plain) in
-    (s .pre .0, s .pre .1, s .pre .2, new .0, plain, s .pre .3, new .1,
-      ahead-of (plain-stores (frameOf (a .edit .f) (a .words .now)) (a .words .now) (requestOf (a .edit .q)) (a .edit .root .0) (entryOf (a .e)) (a .b) (a .new .0) plain) (s .pre .5))
+    let new = s .pre .4 (plain-needs (entryOf (a .e)) plain) in (
+      s .pre .0,
+      s .pre .1,
+      s .pre .2,
+      new .0,
+      plain,
+      s .pre .3,
+      new .1,
+      ahead-of (plain-stores (frameOf (a .edit .f) (a .words .now)) (a .words .now) (requestOf (a .edit .q)) (a .edit .root .0) (entryOf (a .e)) (a .b) (a .new .0) plain) (s .pre .5),
+    )
 
 same-length-2 : tie.Need-same-length-2
 same-length-2 c = search needs

@@ -1,3 +1,4 @@
+-- `entries::fresh::near_end` meets its contract: past the range nothing lies in it, also where that is before its first entry.
 use native.Mathlib.Omega.{arith}
 use borrow.Author.Needs.{needs}
 use Rattle.entries.proofs.fresh.near_end.Statement.{statement}

@@ -1,3 +1,4 @@
+-- `entries::fresh::new_entries` meets its contract: the loop keeps `New`: the entries that are left decide the whole page.
 use mathlib.Core.Path.{_∙_}
 use Prim.Native.Nat.{_-_}
 use native.Mathlib.Omega.{arith}

@@ -9,7 +9,7 @@ use Rattle.model.specs.Forms.{l1Word}
 use Rattle.model.specs.Frame.{indexOf}
 use Rattle.model.specs.Stores.{Store}
 use Rattle.types.specs.Views.{entryOf, requestOf}
-use Rattle.forms.specs.Kinds.{oldWord}
+use Rattle.forms.specs.Permissions.{oldWord}
 use Rattle.forms.proofs.EntryLaws.{word-outside}
 use Rattle.table.specs.Board.{WORDS, ENTRY, frameOf}
 use Rattle.entries.specs.Rows.{fillStores}

@@ -1,3 +1,4 @@
+-- `entries::link::link_table` meets its contract: the page is filled while it is ahead of the link, and the link comes next.
 use mathlib.Core.Path.{_≡_, refl, sym, ap, _∙_}
 use mathlib.Core.Bool.{true}
 use mathlib.Core.List.{List, [], _∷_, _++_}
@@ -6,7 +7,7 @@ use borrow.Author.Needs.{needs}
 use Rattle.table.specs.Board.{board, frameOf}
 use Rattle.entries.proofs.Places.{frame-same, lent-same}
 use Rattle.entries.specs.Ahead.{Ahead}
-use Rattle.entries.proofs.Order.{ahead-of, Way, way-start, way-ahead, way-next, way-cut}
+use Rattle.entries.proofs.Order.{ahead-of, Remaining, remaining-start, remaining-ahead, remaining-next, remaining-cut}
 use Rattle.entries.proofs.Runs.{went-whole, went-cut}
 use Rattle.entries.specs.Run.{run}
 use Rattle.types.specs.declared.Budget.{Budget}
@@ -19,7 +20,7 @@ use Rattle.entries.proofs.link.link_table.Tie as tie
 
 -- before the page, and before the link
 abbrev On : (s : tie.Start) → Budget → List ℕ → List Store → Type 0
-On s more m rest = let a = s .args in Way (a .left) (a .words .now) (linkTable (frameOf (a .edit .f) (a .words .now)) (a .words .now) (requestOf (a .edit .q)) (a .edit .root .0) (entryOf (a .new .e)) (a .new .b) (a .new .page .0)) more m rest
+On s more m rest = let a = s .args in Remaining (a .left) (a .words .now) (linkTable (frameOf (a .edit .f) (a .words .now)) (a .words .now) (requestOf (a .edit .q)) (a .edit .root .0) (entryOf (a .new .e)) (a .new .b) (a .new .page .0)) more m rest
 
 abbrev page : tie.Start → List Store
 page s = let a = s .args in newTable (frameOf (a .edit .f) (a .words .now)) (a .words .now) (requestOf (a .edit .q)) (entryOf (a .new .e)) (a .new .b) (a .new .page .0)
@@ -29,31 +30,31 @@ link s = let a = s .args in storeL2 (frameOf (a .edit .f) (a .words .now)) (a .e
 
 first : (s : tie.Start) → On s (s .args .left) (s .args .words .now) (page s ++ link s)
 unfolding linkTable
-first s = way-start refl (s .pre .7)
+first s = remaining-start refl (s .pre .7)
 
-then : (el : tie.Else1) → let r = el .before .before .before .before .stores in On (el .before .before .before .before .before .before .before) (r .result .left) (r .last .1 .0) (link (el .before .before .before .before .before .before .before))
+then : (el : tie.Else1) → let r = el .before .before .before .before .fill-page in On (el .before .before .before .before .before .before .before) (r .result .left) (r .last .1 .0) (link (el .before .before .before .before .before .before .before))
 then el =
-    let r = el .before .before .before .before .stores in
-    way-next (first (el .before .before .before .before .before .before .before)) _ _ refl (sym (went-whole (r .result) (r .last .1 .0) (el .if1 .left)) ∙ r .ensures)
+    let page-call = el .before .before .before .before .fill-page in
+    remaining-next (first (el .before .before .before .before .before .before .before)) _ _ refl (sym (went-whole (page-call .result) (page-call .last .1 .0) (el .if1 .left)) ∙ page-call .ensures)
 
-stores-requires : tie.Need-stores-requires
-stores-requires c κs = let next : Ahead (c .before .before .args .words .now) (page (c .before .before)) = way-ahead (first (c .before .before)) _ _ refl in search needs
+fill-page-requires : tie.Need-fill-page-requires
+fill-page-requires c κs = let next : Ahead (c .before .before .args .words .now) (page (c .before .before)) = remaining-ahead (first (c .before .before)) _ _ refl in search needs
 
 same-length : tie.Need-same-length
 same-length c = search needs
 
 returns : tie.Need-returns
 returns c =
-    let r = c .before .before .before .before .stores in
+    let r = c .before .before .before .before .fill-page in
     let z = went-cut (r .result) (r .last .1 .0) (c .if1 .taken) in
-    z ∙ way-cut (first (c .before .before .before .before .before .before .before)) _ _ refl (sym z ∙ r .ensures)
+    z ∙ remaining-cut (first (c .before .before .before .before .before .before .before)) _ _ refl (sym z ∙ r .ensures)
 
 -- what either call asks holds still after the other
-stores-requires-2 : tie.Need-stores-requires-2
-stores-requires-2 c κs =
+link-page-requires : tie.Need-link-page-requires
+link-page-requires c κs =
     let s = c .before .before .before .before .before .before .before .before .before in
     let a = s .args in
-    let r = c .before .before .before .before .before .before .stores in
+    let r = c .before .before .before .before .before .before .fill-page in
     let root : lent (frameOf (a .edit .f) (r .last .1 .0)) (a .edit .root .0) ≡ true = lent-same (a .edit .f) (a .words .now) (r .last .1 .0) (r .kept .1 .0) (a .edit .root .0) (s .pre .5) in
     let next : Ahead (r .last .1 .0) (storeL2 (frameOf (a .edit .f) (r .last .1 .0)) (a .edit .root .0) (a .new .b) (encode board (table (a .new .page .0))) ∷ [])
     = ahead-of (ap (λ (X : Frame). storeL2 X (a .edit .root .0) (a .new .b) (encode board (table (a .new .page .0))) ∷ []) (frame-same (a .edit .f) (a .words .now) (r .last .1 .0) (sym (r .kept .1 .0)))) (then (c .before .before) .next) in
@@ -66,8 +67,8 @@ returns-2 : tie.Need-returns-2
 returns-2 c =
     let el = c .before .before .before .before .before in
     let a = el .before .before .before .before .before .before .before .args in
-    let r = el .before .before .before .before .stores in
-    c .before .before .stores2 .ensures
+    let r = (el .before .before .before .before) .fill-page in
+    c .before .before .link-page .ensures
     ∙ ap (λ (X : Frame). run (r .result .left) (storeL2 X (a .edit .root .0) (a .new .b) (encode board (table (a .new .page .0))) ∷ []) (r .last .1 .0)) (frame-same (a .edit .f) (r .last .1 .0) (a .words .now) (r .kept .1 .0))
     ∙ sym (then el .same)
 
@@ -75,9 +76,9 @@ pub link-table-spec : {M : Type 1} → statement M
 link-table-spec =
     tie.close
     (tie.spec
-    stores-requires
+    fill-page-requires
     same-length
     returns
-    stores-requires-2
+    link-page-requires
     same-length-2
     returns-2)

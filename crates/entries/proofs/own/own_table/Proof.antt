@@ -1,3 +1,4 @@
+-- `entries::own::own_table` meets its contract: outside the range no entry changes, so there is nothing to store.
 use native.Mathlib.Omega.{arith}
 use borrow.Author.Needs.{needs}
 use Rattle.entries.proofs.OwnPage.{own-none}

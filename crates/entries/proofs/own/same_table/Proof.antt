@@ -1,3 +1,4 @@
+-- `entries::own::same_table` meets its contract: the loop keeps `Same`: entries outside the range have no store in the list.
 use mathlib.Core.Path.{sym, _∙_, subst}
 use Prim.Native.Nat.{_-_}
 use native.Mathlib.Omega.{arith}

@@ -1,3 +1,4 @@
+-- `entries::put::put` meets its contract: no store is left, or the next one is made.
 use mathlib.Core.Path.{sym}
 use borrow.Author.Needs.{needs}
 use Rattle.entries.proofs.Runs.{run-cut}

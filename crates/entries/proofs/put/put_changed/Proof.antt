@@ -1,3 +1,4 @@
+-- `entries::put::put_changed` meets its contract: a word that does not change has no store in the list.
 use mathlib.Core.Path.{_≡_, sym, ap, _∙_}
 use mathlib.Core.List.{List, [], _∷_}
 use lib.Dec.{eqb}

@@ -1,9 +1,10 @@
+-- `entries::put::put_next` meets its contract: one store of the list, and the budget that it leaves.
 use mathlib.Core.Path.{sym, ap, _∙_}
 use Prim.Native.Nat.{_-_}
 use native.Mathlib.Omega.{arith}
 use Rattle.entries.proofs.Order.{turned}
 use Rattle.entries.proofs.Runs.{run-one}
-use Rattle.entries.specs.Run.{whole}
+use Rattle.entries.specs.Run.{allMade}
 use Rattle.table.specs.Stored.{storeOf}
 use borrow.Author.Needs.{needs}
 use Rattle.entries.proofs.put.put_next.Statement.{statement}
@@ -23,7 +24,7 @@ returns c =
     let s = c .before .before .before .before .before in
     let a = s .args in
     let sets = c .before .before .store-word .ensures in (
-      ap (whole (record { more = a .left .more - 1; last = a .at })) sets ∙ sym (run-one (a .left) (storeOf (a .at) (a .word)) (a .words .now) (omega arith)),
+      ap (allMade (record { more = a .left .more - 1; last = a .at })) sets ∙ sym (run-one (a .left) (storeOf (a .at) (a .word)) (a .words .now) (omega arith)),
       turned (storeOf (a .at) (a .word)) (s .pre .2) sets,
     )
 

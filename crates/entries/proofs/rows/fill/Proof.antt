@@ -1,3 +1,4 @@
+-- `entries::rows::fill` meets its contract: the loop keeps `Filled`: so many stores of the row are made, in order.
 use mathlib.Core.Path.{_≡_, ap, _∙_}
 use mathlib.Core.List.{[], _∷_}
 use Prim.Native.Nat.{ℕ, _-_, _≤_}

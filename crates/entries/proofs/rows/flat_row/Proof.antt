@@ -1,3 +1,4 @@
+-- `entries::rows::flat_row` meets its contract: the loop keeps what is left of the row.
 use mathlib.Core.Path.{_≡_, refl, ap, _∙_}
 use Prim.Native.Nat.{ℕ, _-_, _≤_}
 use native.Mathlib.Omega.{arith}

@@ -1,3 +1,4 @@
+-- `entries::rows::pieces_row` meets its contract: the loop keeps what is left of the row, which the first entry with an L1 page ends.
 use mathlib.Core.Path.{_≡_, sym, ap, _∙_}
 use Prim.Native.Nat.{ℕ, _+_, _-_, _≤_, _<_}
 use native.Mathlib.Omega.{arith}

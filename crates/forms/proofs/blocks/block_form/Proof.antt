@@ -1,3 +1,4 @@
+-- `forms::blocks::block_form` meets its contract: a GiB of one permission, and else inside the range, outside it, and across an end.
 use mathlib.Core.Path.{_≡_, refl, sym, ap, _∙_}
 use Prim.Native.Nat.{ℕ, _/_, _<_}
 use native.Mathlib.Omega.{arith}

@@ -1,3 +1,4 @@
+-- `forms::blocks::cut_form` meets its contract: a mixed piece at an end of the range decides for the block.
 use mathlib.Core.Path.{_≡_, sym, _∙_}
 use Prim.Native.Nat.{_+_, _/_, _%_}
 use native.Mathlib.Omega.{arith}

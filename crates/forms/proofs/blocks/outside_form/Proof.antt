@@ -1,3 +1,4 @@
+-- `forms::blocks::outside_form` meets its contract: outside the range the form is what the entry says, by pieces.
 use mathlib.Core.Path.{_≡_, refl, sym, ap, _∙_}
 use Prim.Native.Nat.{ℕ, _/_, _<_}
 use native.Mathlib.Omega.{arith}
@@ -30,9 +31,6 @@ pieces-form-requires-2 c κs = search needs
 enum-told-2 : tie.Need-enum-told-2
 enum-told-2 c = search needs
 
-pieces-form-requires-3 : tie.Need-pieces-form-requires-3
-pieces-form-requires-3 c κs = search needs
-
 returns : tie.Need-returns
 returns c =
     let s = c .before .before .before .before in
@@ -41,18 +39,16 @@ returns c =
 
 returns-2 : tie.Need-returns-2
 returns-2 c =
-    let s = c .before .before .before .before .before in
+    let s = c .before .before .before .before in
     let a = s .args in
-    form-pieces-out (a .edit .f .paw) (a .edit .f .first .0) (length (a .words .now) / WORDS) (a .words .now) (requestOf (a .edit .q)) (s .pre .1 .small) (entryOf (a .e)) (s .pre .2) (a .b) (s .pre .3) (c .before .before .e2 .given .0 .0) (ap entryOf (c .before .before .e2 .given .1)) (c .if1 .taken)
+    form-pieces-out (a .edit .f .paw) (a .edit .f .first .0) (length (a .words .now) / WORDS) (a .words .now) (requestOf (a .edit .q)) (s .pre .1 .small) (entryOf (a .e)) (s .pre .2) (a .b) (s .pre .3) (c .before .e2 .given .0 .0) (ap entryOf (c .before .e2 .given .1))
+    (rw (c .before .e2 .given .1) at (s .pre .2))
 
 returns-3 : tie.Need-returns-3
-returns-3 c = rw (c .before .before .before .e2 .given .1) (c .pieces-form .ensures)
+returns-3 c = c .pieces-form .ensures
 
 returns-4 : tie.Need-returns-4
 returns-4 c = c .pieces-form2 .ensures
-
-returns-5 : tie.Need-returns-5
-returns-5 c = c .pieces-form3 .ensures
 
 pub outside-form-spec : {M : Type 1} → statement M
 outside-form-spec =
@@ -61,13 +57,11 @@ outside-form-spec =
     enum-known-e
     mul-info
     enum-known-e-2
-    pieces-form-requires
     enum-told
-    pieces-form-requires-2
+    pieces-form-requires
     enum-told-2
-    pieces-form-requires-3
+    pieces-form-requires-2
     returns
     returns-2
     returns-3
-    returns-4
-    returns-5)
+    returns-4)

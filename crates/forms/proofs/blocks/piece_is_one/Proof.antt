@@ -1,3 +1,4 @@
+-- `forms::blocks::piece_is_one` meets its contract: what `piece_at` says of the piece.
 use mathlib.Core.Path.{_≡_, ap, _∙_}
 use Prim.Native.Nat.{ℕ, _+_, _*_}
 use Rattle.model.specs.Forms.{allAre}

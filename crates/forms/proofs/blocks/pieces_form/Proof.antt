@@ -1,3 +1,4 @@
+-- `forms::blocks::pieces_form` meets its contract: the pieces so far, from the highest down, are the digits of the form; the first that is mixed decides.
 use mathlib.Core.Path.{_≡_, refl, sym, ap, ap₂, _∙_, subst}
 use mathlib.Core.Bool.{Bool, true, false}
 use Prim.Native.Nat.{ℕ, _+_, _-_, _*_, _/_, _≤_, _<_, _^_}

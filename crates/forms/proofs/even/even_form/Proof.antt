@@ -8,7 +8,7 @@ use Rattle.table.specs.Board.{WORDS, PIECES, PIECE, EACHPIECE}
 use Rattle.types.specs.Range.{Cut}
 use Rattle.forms.proofs.EvenLaws.{mixed-first, mixed-past, even-spliced}
 use Rattle.forms.proofs.SpliceLaws.{splice-bits}
-use Rattle.forms.specs.Kinds.{Mixes}
+use Rattle.forms.specs.Permissions.{Mixes}
 use Rattle.laws.proofs.Splices.{spliced}
 use Rattle.model.specs.Forms.{wantPieces}
 use Rattle.types.specs.Views.{entryOf, requestOf}

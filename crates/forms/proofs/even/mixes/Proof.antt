@@ -1,3 +1,4 @@
+-- `forms::even::mixes` meets its contract: each test in the order of the definition.
 use mathlib.Core.Path.{_≡_, sym, ap, _∙_}
 use Prim.Native.Nat.{_/_, _%_}
 use native.Mathlib.Omega.{arith}

@@ -1,3 +1,4 @@
+-- `forms::gibs::blocks_are` meets its contract: the blocks that are left decide the whole GiB.
 use mathlib.Core.Path.{_≡_, refl, sym, ap, _∙_, subst}
 use mathlib.Core.Bool.{Bool, true, false}
 use Prim.Native.Nat.{ℕ, _+_, _-_, _*_, _/_, _≤_, _<_}

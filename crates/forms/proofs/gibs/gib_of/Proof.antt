@@ -1,3 +1,4 @@
+-- `forms::gibs::gib_of` meets its contract: a GiB wholly in the range is of the asked permission.
 use mathlib.Core.Path.{_≡_, refl, sym, ap, _∙_, subst}
 use Prim.Native.Nat.{ℕ, _+_, _*_, _/_, _<_}
 use native.Mathlib.Omega.{arith}

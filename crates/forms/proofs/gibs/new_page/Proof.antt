@@ -1,3 +1,4 @@
+-- `forms::gibs::new_page` meets its contract: a block inside the range takes no page.
 use mathlib.Core.Path.{_≡_, ap}
 use Prim.Native.Nat.{_/_}
 use lib.ListN.{length}

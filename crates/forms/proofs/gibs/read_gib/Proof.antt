@@ -1,3 +1,4 @@
+-- `forms::gibs::read_gib` meets its contract: a page of the range and a first page of another permission make it mixed.
 use mathlib.Core.Path.{_≡_, sym, ap, _∙_, subst}
 use Prim.Native.Nat.{_+_, _*_, _/_}
 use native.Mathlib.Omega.{arith}

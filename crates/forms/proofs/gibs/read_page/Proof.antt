@@ -1,3 +1,4 @@
+-- `forms::gibs::read_page` meets its contract: a block that has its page takes none; for any other its form decides.
 use mathlib.Core.Path.{_≡_, refl, sym, ap, ap₂, _∙_, subst}
 use mathlib.Core.Bool.{false}
 use native.Mathlib.Omega.{arith}

@@ -1,3 +1,4 @@
+-- `forms::pieces::block_is` meets its contract: inside the range, outside it, and across an end.
 use Prim.Native.Nat.{_*_, _/_}
 use lib.ListN.{length}
 use Rattle.table.specs.Board.{WORDS}

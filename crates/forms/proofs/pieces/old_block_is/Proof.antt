@@ -1,6 +1,7 @@
+-- `forms::pieces::old_block_is` meets its contract: by what the block's entry says; with an L1 page, by its pieces.
 use Rattle.model.specs.Entry.{pieces}
 use mathlib.Core.Path.{_≡_}
-use Prim.Native.Nat.{_*_, _/_, _%_}
+use Prim.Native.Nat.{_*_, _/_, _<_}
 use native.Mathlib.Omega.{arith}
 use lib.ListN.{length}
 use Rattle.table.specs.Board.{WORDS, INFO}
@@ -47,8 +48,9 @@ returns-2 c =
     let s = c .before .before .before .before in
     let a = s .args in
     let x = c .before .e2 .given .0 .0 in
+    let h : x < INFO = rw (c .before .e2 .given .1) at (s .pre .3) in
     rw (c .before .e2 .given .1)
-    (even-is (a .edit .f .paw) (a .edit .f .first .0) (length (a .words .now) / WORDS) (a .words .now) (requestOf (a .edit .q)) (s .pre .2 .small) (pieces x) tt (a .b) (x % INFO) (omega arith)
+    (even-is (a .edit .f .paw) (a .edit .f .first .0) (length (a .words .now) / WORDS) (a .words .now) (requestOf (a .edit .q)) (s .pre .2 .small) (pieces x) h (a .b) x h
     (even-pieces (a .edit .f .paw) (a .edit .f .first .0) (length (a .words .now) / WORDS) (a .words .now) x (a .b))
     (a .p) (s .pre .1) (s .pre .4))
 

@@ -1,3 +1,4 @@
+-- `forms::pieces::old_first` meets its contract: outside the range the first field is the old one.
 use mathlib.Core.Path.{_≡_, refl, sym, ap, _∙_, subst}
 use Prim.Native.Nat.{ℕ, _+_, _*_, _/_, _%_, _<_, _^_}
 use native.Mathlib.Omega.{arith}

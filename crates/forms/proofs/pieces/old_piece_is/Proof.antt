@@ -1,3 +1,4 @@
+-- `forms::pieces::old_piece_is` meets its contract: by what the block's entry says; with an L1 page, by the words of the piece.
 use mathlib.Core.Path.{_≡_, refl, sym, ap, ap₂, _∙_, subst}
 use Prim.Native.Nat.{ℕ, _+_, _-_, _*_, _/_, _%_, _≤_, _<_, _^_}
 use native.Mathlib.Omega.{arith}
@@ -8,7 +9,7 @@ use Rattle.table.specs.Board.{WORDS, PIECE, ROW, frameOf}
 use Rattle.forms.proofs.EntryLaws.{run-outside}
 use Rattle.forms.proofs.Fields.{eqb-swap, index-add}
 use Rattle.forms.proofs.FormLaws.{piece-words}
-use Rattle.forms.specs.Kinds.{spreadOf}
+use Rattle.forms.specs.Permissions.{spreadOf}
 use Rattle.model.specs.Entry.{Entry}
 use Rattle.model.specs.Forms.{allAre, permOf}
 use Rattle.model.specs.Frame.{indexOf}

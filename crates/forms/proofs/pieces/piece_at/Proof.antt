@@ -1,3 +1,4 @@
+-- `forms::pieces::piece_at` meets its contract: inside the range, outside it, and across an end.
 use mathlib.Core.Path.{_≡_, refl, sym, ap, _∙_, subst}
 use Prim.Native.Nat.{ℕ, _+_, _*_, _/_, _<_, _-_}
 use native.Mathlib.Omega.{arith}

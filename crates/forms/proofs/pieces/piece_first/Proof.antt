@@ -1,3 +1,4 @@
+-- `forms::pieces::piece_first` meets its contract: the first field of the piece's first entry.
 use mathlib.Core.Path.{_≡_, refl, sym, ap, _∙_, subst}
 use Prim.Native.Nat.{ℕ, _+_, _-_, _*_, _/_, _%_, _≤_, _<_}
 use native.Mathlib.Omega.{arith}

@@ -1,3 +1,4 @@
+-- `forms::pieces::pieces_are` meets its contract: the pieces that are left decide the whole block.
 use mathlib.Core.Path.{_≡_, refl, sym, ap, _∙_}
 use mathlib.Core.Bool.{Bool, true, false}
 use Prim.Native.Nat.{ℕ, _+_, _-_, _*_, _/_, _≤_, _<_}

@@ -1,3 +1,4 @@
+-- `forms::pieces::words_are` meets its contract: the entries that are left decide the whole piece.
 use mathlib.Core.Path.{ap₂}
 use mathlib.Core.Path.{_≡_, refl, sym, ap, _∙_}
 use mathlib.Core.Bool.{Bool, true, false}
@@ -9,7 +10,7 @@ use lib.Dec.{eqb}
 use lib.ListN.{length}
 use Rattle.table.specs.Board.{WORDS, FIELDS, PIECE, ROW, frameOf}
 use Rattle.forms.proofs.EntryLaws.{word-is, words-next, words-stop, all-none}
-use Rattle.forms.specs.Kinds.{spreadOf}
+use Rattle.forms.specs.Permissions.{spreadOf}
 use Rattle.model.specs.Forms.{allAre}
 use Rattle.types.specs.Views.{entryOf, requestOf}
 use Rattle.forms.proofs.pieces.words_are.Statement.{statement}

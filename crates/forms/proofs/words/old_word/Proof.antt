@@ -3,7 +3,7 @@ use mathlib.Core.Path.{_∙_, ap}
 use borrow.Author.Needs.{needs}
 use Rattle.laws.proofs.Frames.{word-at}
 use Rattle.table.specs.Board.{frameOf}
-use Rattle.forms.specs.Kinds.{spreadOf}
+use Rattle.forms.specs.Permissions.{spreadOf}
 use Rattle.model.specs.Frame.{wordAt}
 use Rattle.forms.proofs.words.old_word.Statement.{statement}
 use Rattle.forms.proofs.words.old_word.Tie as tie

@@ -1,3 +1,4 @@
+-- `types::blocks::next_page` meets its contract: by what `needs_page` says.
 use mathlib.Core.Path.{_≡_, refl, sym, ap, _∙_}
 use borrow.Author.Needs.{needs}
 use Rattle.types.proofs.blocks.next_page.Statement.{statement}

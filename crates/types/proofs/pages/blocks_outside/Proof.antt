@@ -1,3 +1,4 @@
+-- `types::pages::blocks_outside` meets its contract: a block after the end of the range, or before its start, has no page in it.
 use native.Mathlib.Omega.{arith}
 use Rattle.laws.proofs.InRange.{above-false, below-false}
 use borrow.Author.Needs.{needs}

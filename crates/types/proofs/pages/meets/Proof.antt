@@ -39,7 +39,7 @@ returns-3 c =
     split (leb first (a .s))
     (λ z. let h = leb-true first (a .s) z in true≢false (sym (in-true (requestOf (a .q)) (a .s) (omega (arith, pre .2 .starts)) (omega arith)) ∙ out (a .s) (omega arith) (omega arith)))
     (λ z. let h = leb-false first (a .s) z in
-        true≢false (sym (in-true (requestOf (a .q)) first (omega (arith, pre .2 .starts)) (omega (arith, pre .2 .some, pre .2 .starts))) ∙ out first (omega arith) (omega (arith, pre .2 .starts))))
+    true≢false (sym (in-true (requestOf (a .q)) first (omega (arith, pre .2 .starts)) (omega (arith, pre .2 .some, pre .2 .starts))) ∙ out first (omega arith) (omega (arith, pre .2 .starts))))
 
 pub meets-spec : {M : Type 1} → statement M
 meets-spec =

@@ -1,0 +1,70 @@
+/* Right with WRONG 0. With any other number one thing is mixed up that must not be, and no compiler may take it. */
+#include "mpt.h"
+
+static uint64_t words[2 * MPT_PAGE_WORDS], slots[MPT_SLOTS];
+
+void calls(mpt_page first, mpt_address address, mpt_sdid sdid);
+void calls(mpt_page first, mpt_address address, mpt_sdid sdid)
+{
+    mpt_looked looked = mpt_lookup(32, first, words, 1024, slots[0], MPT_USER, MPT_LOAD, address);
+    mpt_opened opened = mpt_open(32, first, words, 1024, slots, 0, sdid);
+    mpt_edited edited = mpt_edit(32, first, words, 1024, slots, 0, address, MPT_PAGE_BYTES, MPT_RW, MPT_MOST_STORES);
+    mpt_closed closed = mpt_close(32, first, words, 1024, slots, 0);
+    mpt_checked checked = mpt_sound(32, first, words, 1024, slots);
+    uint64_t number = mpt_fault(looked) + mpt_refused(opened) + mpt_stores(edited) + mpt_fence(closed) + checked.word;
+    mpt_write_opened(slots, number, opened);
+    sdid = mpt_write_closed(slots, 0, closed);
+#if WRONG == 1
+    edited = mpt_edit(32, first, words, 1024, slots, 0, first, 4096, MPT_RW, 1);
+#elif WRONG == 2
+    edited = mpt_edit(32, address, words, 1024, slots, 0, address, 4096, MPT_RW, 1);
+#elif WRONG == 3
+    looked = mpt_lookup(32, address, words, 1024, slots[0], MPT_USER, MPT_LOAD, first);
+#elif WRONG == 4
+    opened = mpt_open(32, first, words, 1024, slots, sdid, 0);
+#elif WRONG == 5
+    opened = mpt_open(32, first, words, 1024, slots, 0, address);
+#elif WRONG == 6
+    opened = mpt_open(32, first, words, 1024, slots, 0, 5);
+#elif WRONG == 7
+    looked = mpt_lookup(32, first, words, 1024, slots[0], MPT_USER, MPT_LOAD, 0x40000000);
+#elif WRONG == 8
+    closed = mpt_close(32, 0x80000, words, 1024, slots, 0);
+#elif WRONG == 9
+    number = mpt_refused(looked);
+#elif WRONG == 10
+    if (!mpt_lookup(32, first, words, 1024, slots[0], MPT_USER, MPT_LOAD, address))
+        number = 0;
+#elif WRONG == 11
+    number = mpt_allowed(edited);
+#elif WRONG == 12
+    number = mpt_stores(opened);
+#elif WRONG == 13
+    number = mpt_fence(opened);
+#elif WRONG == 14
+    number = mpt_refused(checked);
+#elif WRONG == 15
+    slots[0] = mpt_open(32, first, words, 1024, slots, 0, sdid);
+#elif WRONG == 16
+    mpt_write_opened(slots, 0, closed);
+#elif WRONG == 17
+    sdid = mpt_write_closed(slots, 0, opened);
+#elif WRONG == 18
+    address = sdid;
+#elif WRONG == 19
+    mpt_lookup(32, first, words, 1024, slots[0], MPT_USER, MPT_LOAD, address);
+#elif WRONG == 20
+    mpt_open(32, first, words, 1024, slots, 0, sdid);
+#elif WRONG == 21
+    mpt_close(32, first, words, 1024, slots, 0);
+#elif WRONG == 22
+    mpt_edit(32, first, words, 1024, slots, 0, address, MPT_PAGE_BYTES, MPT_RW, MPT_MOST_STORES);
+#elif WRONG == 23
+    mpt_sound(32, first, words, 1024, slots);
+#elif WRONG == 24
+    mpt_write_closed(slots, 0, closed);
+#elif WRONG != 0
+#error "no such wrong version"
+#endif
+    slots[1] = number + looked.word + opened.word + edited.word + sdid.value + address.value;
+}

@@ -1,0 +1,73 @@
+#!/bin/sh
+# Programs that mix up what mpt.h keeps apart must not compile: each is refused at its own line, for its own reason, by every compiler
+# at hand, in C and in C++. The right one compiles.
+set -eu
+here=$(cd "$(dirname "$0")" && pwd)
+folder=$(mktemp -d)
+trap 'rm -rf "$folder"' EXIT
+export LC_ALL=C
+
+# number, what is wrong, and what a compiler says of it
+versions() {
+    cat <<'.'
+1:a page number for an address:argument 7 of 'mpt_edit'|'mpt_page'.* to .*'mpt_address'
+2:an address for a page number:argument 2 of 'mpt_edit'|'mpt_address'.* to .*'mpt_page'
+3:both swapped in a lookup:argument 2 of 'mpt_lookup'|'mpt_address'.* to .*'mpt_page'
+4:slot and SDID swapped:argument 6 of 'mpt_open'|'mpt_sdid'.* to .*'uint64_t'
+5:an address for an SDID:argument 7 of 'mpt_open'|'mpt_address'.* to .*'mpt_sdid'
+6:a number for an SDID:argument 7 of 'mpt_open'|'int'.* to .*'mpt_sdid'
+7:a number for an address:argument 8 of 'mpt_lookup'|'int'.* to .*'mpt_address'
+8:a number for a page number:argument 2 of 'mpt_close'|'int'.* to .*'mpt_page'
+9:mpt_refused of a lookup:'(struct )?mpt_looked'.* (is )?not compatible with any|call to 'mpt_refused(\(mpt_looked&\))?'
+10:a lookup taken for a truth value:wrong type argument to unary exclamation|'mpt_looked'.* to unary|'operator!' .*'mpt_looked'
+11:mpt_allowed of an edit:argument 1 of 'mpt_allowed'|'mpt_edited'.* to .*'mpt_looked'
+12:mpt_stores of an open:argument 1 of 'mpt_stores'|'mpt_opened'.* to .*'mpt_edited'
+13:mpt_fence of an open:'(struct )?mpt_opened'.* (is )?not compatible with any|call to 'mpt_fence(\(mpt_opened&\))?'
+14:mpt_refused of a check:'(struct )?mpt_checked'.* (is )?not compatible with any|call to 'mpt_refused(\(mpt_checked&\))?'
+15:an answer written to a slot, refused or not:'uint64_t'.* from .*'mpt_opened'|'mpt_opened'.* to 'uint64_t'
+16:a close's answer for an open's:argument 3 of 'mpt_write_opened'|'mpt_closed'.* to .*'mpt_opened'
+17:an open's answer for a close's:argument 3 of 'mpt_write_closed'|'mpt_opened'.* to .*'mpt_closed'
+18:an SDID for an address:'mpt_address'.* from .*'mpt_sdid'|'mpt_address'.* and 'mpt_sdid'|'mpt_sdid'.* to .*'mpt_address'
+19:a lookup left lying:ignoring return value .*warn_unused_result
+20:an open left lying:ignoring return value .*warn_unused_result
+21:a close left lying:ignoring return value .*warn_unused_result
+22:an edit left lying:ignoring return value .*warn_unused_result
+23:a check left lying:ignoring return value .*warn_unused_result
+24:a close's fence left lying:ignoring return value .*warn_unused_result
+.
+}
+
+# compile NUMBER: what the compiler says goes to a file; its status
+compile() {
+    # shellcheck disable=SC2086 # the compiler and its switches
+    $compiler -Wall -Wextra -Werror -I "$here/../include" -DWRONG="$1" -c "$here/wrong.c" -o "$folder/wrong.o" >"$folder/said" 2>&1
+}
+
+# refused NUMBER WHAT REASON
+refused() {
+    if compile "$1"; then
+        echo "wrong.c, $1: $2: $compiler takes it" >&2
+        exit 1
+    fi
+    line=$(($(grep -n "WRONG == $1\$" "$here/wrong.c" | cut -d: -f1) + 1))
+    if ! grep -q "wrong\.c:$line:" "$folder/said" || ! grep -Eq "$3" "$folder/said"; then
+        echo "wrong.c, $1: $2: $compiler refuses it, but not at line $line for this:" >&2
+        grep error "$folder/said" | head -n 3 >&2
+        exit 1
+    fi
+}
+
+count=$(versions | wc -l)
+by=
+for compiler in "${CC:-cc} -std=c11" "clang -std=c11" "c++ -x c++ -std=c++11" "clang++ -x c++ -std=c++11"; do
+    command -v "${compiler%% *}" >/dev/null 2>&1 || continue
+    if ! compile 0; then
+        echo "wrong.c: $compiler refuses the right version:" >&2
+        head -n 3 "$folder/said" >&2
+        exit 1
+    fi
+    versions >"$folder/versions"
+    while IFS=: read -r number what reason; do refused "$number" "$what" "$reason"; done <"$folder/versions"
+    by="$by${by:+, }${compiler%% *}"
+done
+echo "C interface: $count programs that mix up its kinds are refused, each for that, by $by"

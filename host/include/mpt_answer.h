@@ -1,0 +1,187 @@
+/* Part of mpt.h, which includes it: numbers into their kinds, an answer's parts, and the slot after an
+ * open and a close. */
+#ifndef MPT_ANSWER_H
+#define MPT_ANSWER_H
+
+#ifndef MPT_H
+#error "include mpt.h"
+#endif
+
+#ifdef __cplusplus
+extern "C" {
+#endif
+
+/* Numbers into their kinds. */
+
+static inline mpt_page mpt_to_page(uint64_t number)
+{
+    mpt_page page = {number};
+    return page;
+}
+
+static inline mpt_address mpt_to_address(uint64_t number)
+{
+    mpt_address address = {number};
+    return address;
+}
+
+static inline mpt_sdid mpt_to_sdid(uint64_t number)
+{
+    mpt_sdid sdid = {number};
+    return sdid;
+}
+
+/* The page that holds an address. */
+static inline mpt_page mpt_page_of(mpt_address address)
+{
+    return mpt_to_page(address.value / MPT_PAGE_BYTES);
+}
+
+/* The library is of this header's major version, and of its minor one or a later. */
+static inline int mpt_version_fits(void)
+{
+    uint64_t library = mpt_version();
+    return library >= MPT_VERSION && library >> 16 == MPT_VERSION_MAJOR;
+}
+
+/* A lookup's answer: exactly one of these three is not 0. */
+
+static inline int mpt_allowed(mpt_looked answer)
+{
+    return answer.word == MPT_FINE;
+}
+
+/* The cause of the fault: 1 fetch, 5 load, 7 store. */
+static inline uint64_t mpt_fault(mpt_looked answer)
+{
+    return answer.word > 256 ? answer.word - 256 : 0;
+}
+
+/* 1, 2 or 255. */
+static inline uint64_t mpt_lookup_refused(mpt_looked answer)
+{
+    return answer.word < 256 ? answer.word : 0;
+}
+
+/* A check's answer. */
+static inline int mpt_is_sound(mpt_checked answer)
+{
+    return answer.word == MPT_FINE;
+}
+
+/* The refusal's number or 255, and 0 if the call was made. */
+
+static inline uint64_t mpt_open_refused(mpt_opened answer)
+{
+    return answer.word < 256 ? answer.word : 0;
+}
+
+static inline uint64_t mpt_close_refused(mpt_closed answer)
+{
+    return answer.word < 256 ? answer.word : 0;
+}
+
+static inline uint64_t mpt_edit_refused(mpt_edited answer)
+{
+    return answer.word < 256 ? answer.word : 0;
+}
+
+/* The register that an open made; 0 if it was refused. */
+static inline uint64_t mpt_register(mpt_opened answer)
+{
+    return answer.word < 256 ? 0 : answer.word;
+}
+
+/* Of an edit: bits 57:18, how many stores were made. */
+static inline uint64_t mpt_stores(mpt_edited answer)
+{
+    return answer.word >> 18 & ((UINT64_C(1) << 40) - 1);
+}
+
+/* Of an edit: bit 9, whether those were all. */
+static inline int mpt_all(mpt_edited answer)
+{
+    return answer.word >> 9 & 1;
+}
+
+/* The fence's kind, bits 11:10, and if it is not MPT_FENCE_NONE its SDID, bits 17:12. */
+
+static inline uint64_t mpt_close_fence(mpt_closed answer)
+{
+    return answer.word >> 10 & 3;
+}
+
+static inline uint64_t mpt_edit_fence(mpt_edited answer)
+{
+    return answer.word >> 10 & 3;
+}
+
+static inline mpt_sdid mpt_close_fence_sdid(mpt_closed answer)
+{
+    return mpt_to_sdid(answer.word >> 12 & 63);
+}
+
+static inline mpt_sdid mpt_edit_fence_sdid(mpt_edited answer)
+{
+    return mpt_to_sdid(answer.word >> 12 & 63);
+}
+
+/* The slot, after the call that it belongs to. */
+
+#if defined(__GNUC__) || defined(__clang__) /* for another compiler, write these three by its own means */
+
+/* One store of 8 bytes: a reset leaves the old register or the new one, never a part of each. It comes
+ * after all that was stored before it, also as other harts see it. */
+static inline void mpt_write_slot(uint64_t *place, uint64_t value)
+{
+    __atomic_store_n((volatile uint64_t *)place, value, __ATOMIC_RELEASE);
+}
+
+/* After an open: its register goes to the slot, last of all. The root page is zeroed by then, so that a
+ * reset before this store leaves the slot empty and the page free, and one after it a domain that may
+ * do nothing yet. Writes nothing if the open was refused. */
+static inline void mpt_write_opened(uint64_t slots[8], uint64_t slot, mpt_opened answer)
+{
+    if (!mpt_open_refused(answer))
+        mpt_write_slot(&slots[slot], answer.word);
+}
+
+/* After a close: the slot is emptied, and only then comes the fence, which the caller makes for the
+ * SDID that this returns. In the other order a hart that still found the register in the slot could
+ * remember something after the fence. A reset between the two leaves an empty slot whose fence was
+ * never made: so at a start, before the first open, everything is fenced (MFENCE.SPA x0, x0).
+ * If the close was refused, nothing is written, and the SDID is MPT_HIGHEST_SDID + 1, which is none. */
+MPT_MUST_USE static inline mpt_sdid mpt_write_closed(uint64_t slots[8], uint64_t slot, mpt_closed answer)
+{
+    if (mpt_close_refused(answer))
+        return mpt_to_sdid(MPT_HIGHEST_SDID + 1);
+    mpt_write_slot(&slots[slot], 0);
+    /* every hart sees the empty slot before the fence that follows */
+    __atomic_thread_fence(__ATOMIC_SEQ_CST);
+    return mpt_close_fence_sdid(answer);
+}
+
+#endif
+
+#ifdef __cplusplus
+}
+
+/* One name for each question, for the answers that it may be asked of. */
+static inline uint64_t mpt_refused(mpt_opened answer) { return mpt_open_refused(answer); }
+static inline uint64_t mpt_refused(mpt_closed answer) { return mpt_close_refused(answer); }
+static inline uint64_t mpt_refused(mpt_edited answer) { return mpt_edit_refused(answer); }
+static inline uint64_t mpt_fence(mpt_closed answer) { return mpt_close_fence(answer); }
+static inline uint64_t mpt_fence(mpt_edited answer) { return mpt_edit_fence(answer); }
+static inline mpt_sdid mpt_fence_sdid(mpt_closed answer) { return mpt_close_fence_sdid(answer); }
+static inline mpt_sdid mpt_fence_sdid(mpt_edited answer) { return mpt_edit_fence_sdid(answer); }
+#else
+/* One name for each question, for the answers that it may be asked of (C11). */
+#define mpt_refused(answer) \
+    _Generic((answer), mpt_opened: mpt_open_refused, mpt_closed: mpt_close_refused, \
+             mpt_edited: mpt_edit_refused)(answer)
+#define mpt_fence(answer) _Generic((answer), mpt_closed: mpt_close_fence, mpt_edited: mpt_edit_fence)(answer)
+#define mpt_fence_sdid(answer) \
+    _Generic((answer), mpt_closed: mpt_close_fence_sdid, mpt_edited: mpt_edit_fence_sdid)(answer)
+#endif
+
+#endif
