@@ -31,8 +31,8 @@ ghost use mathlib.Core.Bool.{true, false};
 ghost use mathlib.Core.List.{List, headD};
 ghost use Prim.Native.Nat.{_+_, _-_, _*_, _/_, _%_, _≤_, _<_, _^_};
 ghost use lib.ListN.{drop};
-ghost use Rattle.edit.specs.Blocks.{Encodes, HasNewPage};
-ghost use Rattle.edit.specs.Steps.{Advanced, storesOver};
+ghost use Rattle.sequence.specs.Blocks.{Encodes, HasNewPage};
+ghost use Rattle.sequence.specs.Steps.{Advanced, storesOver};
 ghost use Rattle.entries.specs.Ahead.{Ahead};
 ghost use Rattle.entries.specs.Run.{out, run};
 ghost use Rattle.types.specs.Range.{Fair};
@@ -40,7 +40,7 @@ ghost use Rattle.model.specs.Forms.{wantTable};
 ghost use Rattle.model.specs.Frame.{lent, blocks};
 ghost use Rattle.model.specs.Stores.{Store, needsPage, ifChangedL2, blockStores};
 ghost use Rattle.types.specs.Views.{entryOf, requestOf, formOf, freeList};
-ghost use Rattle.theory.specs.Rooted.{Good, Rooted};
+ghost use Rattle.shapes.specs.Rooted.{Good, Rooted};
 ghost use Rattle.table.specs.Board.{BLOCKS, board, frameOf};
 
 // The L2 entry of block b, if it changes.

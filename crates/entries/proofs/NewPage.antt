@@ -17,7 +17,7 @@ use Rattle.model.specs.Entry.{Entry}
 use Rattle.model.specs.Forms.{Request, l1Word}
 use Rattle.model.specs.Frame.{Frame, lent}
 use Rattle.model.specs.Stores.{Store, storeAt, newTable}
-use Rattle.theory.specs.Rooted.{Good}
+use Rattle.shapes.specs.Rooted.{Good}
 use Rattle.laws.proofs.Lists.{joined-append}
 use Rattle.entries.proofs.Places.{frame-same, lent-same, good-same}
 use Rattle.shapes.proofs.PageLaws as pages

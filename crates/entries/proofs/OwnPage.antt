@@ -20,7 +20,7 @@ use Rattle.model.specs.Forms.{Request, inRange, l1Word}
 use Rattle.model.specs.Frame.{Frame, wordAt}
 use Rattle.model.specs.Numbers.{joined}
 use Rattle.model.specs.Stores.{Store, ifChanged, sameTable}
-use Rattle.theory.specs.Rooted.{Good}
+use Rattle.shapes.specs.Rooted.{Good}
 use Rattle.laws.proofs.Lists.{joined-none, joined-skip}
 use Rattle.shapes.specs.Pages.{ownRun}
 use Rattle.shapes.proofs.PageLaws.{Put, changed-same, entry-stays, l1-clean, put-changed}

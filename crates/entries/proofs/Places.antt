@@ -17,7 +17,7 @@ use Rattle.model.specs.Stores.{Store, storeAt, ifChanged}
 use Rattle.shapes.proofs.Fields.{index-add}
 use Rattle.shapes.proofs.PageLaws.{good-plain}
 use Rattle.table.specs.Stored.{storeOf}
-use Rattle.theory.specs.Rooted.{Good}
+use Rattle.shapes.specs.Rooted.{Good}
 use Rattle.entries.proofs.Order.{ahead-of}
 use Rattle.types.specs.declared.Frame as code
 pub use Rattle.shapes.proofs.PageLaws.{index-next}

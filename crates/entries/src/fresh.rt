@@ -32,7 +32,7 @@ ghost use Rattle.model.specs.Frame as frame;
 ghost use Rattle.model.specs.Frame.{lent};
 ghost use Rattle.model.specs.Stores.{Store, storeAt, newTable};
 ghost use Rattle.types.specs.Views.{entryOf, requestOf};
-ghost use Rattle.theory.specs.Rooted.{Good};
+ghost use Rattle.shapes.specs.Rooted.{Good};
 ghost use Rattle.types.specs.Range.{Fair, Lies};
 
 // L1 entry i of block b, in the new page.

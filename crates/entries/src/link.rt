@@ -22,7 +22,7 @@ ghost use Rattle.model.specs.Entry.{table, encode};
 ghost use Rattle.model.specs.Frame.{lent};
 ghost use Rattle.model.specs.Stores.{Store, storeL2, linkTable};
 ghost use Rattle.types.specs.Views.{entryOf, requestOf};
-ghost use Rattle.theory.specs.Rooted.{Good};
+ghost use Rattle.shapes.specs.Rooted.{Good};
 
 // The L2 entry of the block that names the page.
 fn link_page(edit: Edit, words: &mut [Word], new: NewPage, left: Budget) -> Progress

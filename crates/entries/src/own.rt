@@ -22,7 +22,7 @@ ghost use Rattle.entries.specs.Run.{out, run};
 ghost use Rattle.types.specs.Range.{Fair};
 ghost use Rattle.model.specs.Forms.{l1Word};
 ghost use Rattle.model.specs.Stores.{Store, ifChanged, sameTable};
-ghost use Rattle.theory.specs.Rooted.{Good};
+ghost use Rattle.shapes.specs.Rooted.{Good};
 ghost use Rattle.types.specs.Views.{requestOf};
 ghost use Rattle.model.specs.Entry as entry;
 

@@ -13,7 +13,7 @@ use Rattle.model.specs.Frame.{Frame}
 use Rattle.model.specs.Numbers.{pack}
 use Rattle.shapes.proofs.EntryLaws as entries
 use Rattle.shapes.proofs.Fields.{old}
-use Rattle.theory.specs.Rooted.{Good}
+use Rattle.shapes.specs.Rooted.{Good}
 use Rattle.forms.proofs.BoardShape.{board-shape}
 
 module _ (paw first pages : ℕ) (m : List ℕ) where

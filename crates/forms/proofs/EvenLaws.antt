@@ -10,7 +10,7 @@ use Rattle.model.specs.Forms.{Request, inRange, allAre, wantPieces, wantTable, 
 use Rattle.model.specs.Frame.{Frame}
 use Rattle.types.specs.Range.{Cut}
 use Rattle.shapes.proofs.EvenLaws as evens
-use Rattle.theory.specs.Rooted.{Good}
+use Rattle.shapes.specs.Rooted.{Good}
 use Rattle.table.specs.Board.{board, PIECES, PIECE, INFO, EACHPIECE}
 use Rattle.forms.specs.Permissions.{Even, Mixes}
 use Rattle.forms.proofs.BoardShape.{board-shape}

@@ -10,7 +10,7 @@ use Rattle.model.specs.Forms.{Request, inRange, allAre, wantPieces, wantTable, 
 use Rattle.model.specs.Frame.{Frame, indexOf}
 use Rattle.model.specs.Numbers.{every, pack}
 use Rattle.shapes.proofs.FormLaws as forms
-use Rattle.theory.specs.Rooted.{Good}
+use Rattle.shapes.specs.Rooted.{Good}
 use Rattle.table.specs.Board.{board, PIECES, PIECE, ROW, ENTRY, INFO, EACH, EACHPIECE}
 use Rattle.forms.proofs.BoardShape.{board-shape}
 pub use Rattle.shapes.proofs.FormLaws.{firstOf, isOne}

@@ -7,7 +7,7 @@ use Rattle.model.specs.Forms.{Request, inRange, gibFirst, gibIsOne}
 use Rattle.model.specs.Frame.{Frame, blocks}
 use Rattle.shapes.proofs.GibLaws as gibs
 use Rattle.table.specs.Board.{board}
-use Rattle.theory.specs.Rooted.{Rooted}
+use Rattle.shapes.specs.Rooted.{Rooted}
 use Rattle.forms.proofs.BoardShape.{board-shape}
 pub use Rattle.shapes.specs.Blocks.{blockIs}
 pub use Rattle.shapes.proofs.Fields.{every-next, every-stop, every-none}

@@ -24,7 +24,7 @@ ghost use Rattle.model.specs.Frame.{lent};
 ghost use Rattle.model.specs.Stores.{needsPage};
 ghost use Rattle.model.specs.Walk.{entryAt};
 ghost use Rattle.types.specs.Views.{entryOf, requestOf, formOf};
-ghost use Rattle.theory.specs.Rooted.{Good};
+ghost use Rattle.shapes.specs.Rooted.{Good};
 
 // The finished form of block b in a GiB that is not of one permission.
 fn pieces_form(edit: Edit, words: &[Word], e: Entry, b: u64) -> Form

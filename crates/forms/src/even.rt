@@ -22,7 +22,7 @@ ghost use Rattle.table.specs.Board.{BLOCKS, INFO, frameOf};
 ghost use Rattle.forms.specs.Permissions.{Even, Mixes};
 ghost use Rattle.model.specs.Forms.{formIn};
 ghost use Rattle.types.specs.Views.{entryOf, requestOf, formOf};
-ghost use Rattle.theory.specs.Rooted.{Good};
+ghost use Rattle.shapes.specs.Rooted.{Good};
 
 // A piece with pages in the range and pages outside it becomes mixed, unless it has the asked permission already.
 fn mixes(q: Request, b: u64, info: u64, at: u64) -> bool

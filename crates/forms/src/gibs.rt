@@ -30,7 +30,7 @@ ghost use Rattle.model.specs.Frame.{blocks};
 ghost use Rattle.model.specs.Numbers.{if_then_else_};
 ghost use Rattle.model.specs.Stores.{needsPage};
 ghost use Rattle.model.specs.Walk.{entryAt};
-ghost use Rattle.theory.specs.Rooted.{Rooted};
+ghost use Rattle.shapes.specs.Rooted.{Rooted};
 ghost use Rattle.types.specs.Views.{requestOf};
 
 // All blocks of GiB g are of permission p.

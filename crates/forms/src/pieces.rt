@@ -28,7 +28,7 @@ ghost use Rattle.forms.specs.Permissions.{PieceIs};
 ghost use Rattle.model.specs.Forms.{allAre, afterIn};
 ghost use Rattle.model.specs.Numbers.{every};
 ghost use Rattle.types.specs.Views.{entryOf, requestOf};
-ghost use Rattle.theory.specs.Rooted.{Good};
+ghost use Rattle.shapes.specs.Rooted.{Good};
 
 // The L1 entries of a piece, from entry i of block b on, are all of permission p, once the edit is whole.
 fn words_are(edit: Edit, words: &[Word], e: Entry, b: u64, i: u64, p: u64) -> bool

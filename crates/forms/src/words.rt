@@ -25,7 +25,7 @@ ghost use Rattle.forms.specs.Permissions.{spreadOf, oldWord, mixedAt};
 ghost use Rattle.model.specs.Forms.{l1Word};
 ghost use Rattle.model.specs.Numbers.{pack};
 ghost use Rattle.types.specs.Views.{entryOf, requestOf};
-ghost use Rattle.theory.specs.Rooted.{Good};
+ghost use Rattle.shapes.specs.Rooted.{Good};
 
 // An L1 entry whose fields are all p.
 pub fn spread(p: u64) -> Word

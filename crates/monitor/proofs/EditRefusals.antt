@@ -14,7 +14,7 @@ use Rattle.model.specs.Stores.{Store, newPages}
 use Rattle.model.specs.Calls.{Outcome, edited, firstMet, registerFor, rootOf, refuse, badRange, meetsLent, finished, editRefusalWith, editRefusal, storeList, made, editWith, editSlot}
 use Rattle.types.specs.Views.{fenceOf}
 use Rattle.types.specs.declared.Made.{Made}
-use Rattle.edit.specs.Made.{IsMade}
+use Rattle.sequence.specs.Made.{IsMade}
 use Rattle.slots.specs.Named.{notOpen}
 use Rattle.slots.specs.Outcomes.{outcomeOf}
 use Rattle.slots.specs.declared.Outcome as code

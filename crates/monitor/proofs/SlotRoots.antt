@@ -11,11 +11,11 @@ use Rattle.model.specs.Sound.{Slot, register, isOpen, roots, soundSlots, soundT
 use Rattle.model.specs.Calls.{slotAt}
 use Rattle.laws.proofs.Choices.{and-true, or-false, not-false-true}
 use Rattle.types.specs.declared.Frame.{Frame}
-use Rattle.theory.specs.Rooted.{Rooted}
+use Rattle.shapes.specs.Rooted.{Rooted}
 use Rattle.theory.proofs.Frames.{frame-ok}
 use Rattle.theory.proofs.Tables.{to-sound}
 use Rattle.theory.proofs.Domains.{open-domain, domain-root}
-use Rattle.theory.proofs.SoundRoots.{sound-rooted}
+use Rattle.shapes.proofs.SoundRoots.{sound-rooted}
 use Rattle.slots.specs.Named.{notOpen}
 use Rattle.table.specs.Board.{frameOf}
 use Rattle.range.proofs.Lawful.{board-lawful}

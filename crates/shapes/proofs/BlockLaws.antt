@@ -18,7 +18,7 @@ use Rattle.model.specs.Numbers.{if_then_else_, joined}
 use Rattle.model.specs.Stores.{Store, storeAt, storeL2, ifChangedL2, blockStores, needsPage, newPages, storesFrom}
 use Rattle.model.specs.Walk.{entryAt, entryPage, entryPlace, l2Word}
 use Rattle.theory.proofs.Entries.{Small, decode-small}
-use Rattle.theory.specs.Rooted.{Good}
+use Rattle.shapes.specs.Rooted.{Good}
 use Rattle.shapes.specs.Words.{flatInfo}
 use Rattle.shapes.specs.Blocks.{formAt, storesAt, storesOver, pagesOver, Encodes}
 use Rattle.shapes.specs.Rows.{changeAt, rowStores, piecesOf, piecesWord}

@@ -24,7 +24,7 @@ use Rattle.theory.proofs.Forms.{forms-all, forms-length}
 use Rattle.theory.proofs.Frames.{Ok, frame-ok}
 use Rattle.theory.proofs.Plans.{AllAt}
 use Rattle.theory.proofs.Ranges.{good-range, touched-inside}
-use Rattle.theory.specs.Rooted.{Good}
+use Rattle.shapes.specs.Rooted.{Good}
 use Rattle.shapes.specs.Blocks.{Ranged, blockIs, wholePages}
 use Rattle.shapes.proofs.Shape.{Shape, piece-in-block, piece-number, piece-of}
 use Rattle.laws.proofs.InRange.{in-true, below-false, above-false, in-at, out-above}

@@ -16,7 +16,7 @@ use Rattle.model.specs.Frame.{Frame, wordAt}
 use Rattle.model.specs.Layout.{blockPages, piecePages}
 use Rattle.model.specs.Numbers.{if_then_else_, every, digit, pack}
 use Rattle.model.specs.Walk.{found}
-use Rattle.theory.specs.Rooted.{Good}
+use Rattle.shapes.specs.Rooted.{Good}
 use Rattle.shapes.specs.Words.{pieceWords, spreadOf, oldWord, mixedAt}
 use Rattle.shapes.proofs.Shape.{Shape, fields-pos, entry-in-piece, piece-in-block, pn0-of, pn1-of, piece-of-entry}
 use Rattle.shapes.proofs.Fields.{field-clean, field-small, old, pack-const}

@@ -17,7 +17,7 @@ use Rattle.model.specs.Frame.{Frame}
 use Rattle.model.specs.Layout.{blockPages, piecePages}
 use Rattle.model.specs.Numbers.{every, digit}
 use Rattle.model.specs.Walk.{found}
-use Rattle.theory.specs.Rooted.{Good}
+use Rattle.shapes.specs.Rooted.{Good}
 use Rattle.shapes.specs.Words.{flatInfo}
 use Rattle.shapes.specs.Blocks.{Even, Mixes}
 use Rattle.types.specs.Range.{Cut}

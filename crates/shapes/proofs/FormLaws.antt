@@ -16,7 +16,7 @@ use Rattle.model.specs.Frame.{Frame, wordAt, indexOf}
 use Rattle.model.specs.Layout.{blockPages, piecePages}
 use Rattle.model.specs.Numbers.{every, digit, pack}
 use Rattle.model.specs.Walk.{found}
-use Rattle.theory.specs.Rooted.{Good}
+use Rattle.shapes.specs.Rooted.{Good}
 use Rattle.shapes.specs.Words.{pieceWords, spreadOf, flatInfo}
 use Rattle.shapes.proofs.Shape.{Shape, piece-pos, entry-in-piece, piece-in-block, row-pages, row-in, piece-of}
 use Rattle.shapes.proofs.Fields.{pack-const}

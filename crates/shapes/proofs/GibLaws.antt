@@ -15,7 +15,7 @@ use Rattle.model.specs.Frame.{Frame, blocks}
 use Rattle.model.specs.Layout.{blockPages, gibBlocks, gibPages, piecePages}
 use Rattle.model.specs.Numbers.{every}
 use Rattle.model.specs.Walk.{entryAt, pn2}
-use Rattle.theory.specs.Rooted.{Rooted}
+use Rattle.shapes.specs.Rooted.{Rooted}
 use Rattle.shapes.specs.Blocks.{blockIs}
 use Rattle.shapes.proofs.Shape.{Shape}
 use Rattle.shapes.proofs.EntryLaws.{run-inside}

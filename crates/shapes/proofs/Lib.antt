@@ -1,3 +1,4 @@
+--   SoundRoots  from a sound table, once, to what the contracts use
 --   Shape       what the laws ask of a layout
 --   Fields      numbers by their digits
 --   SpliceLaws  words spliced from the old one and the asked permission
@@ -24,3 +25,4 @@ pub mod BlockLaws
 pub mod RowLaws
 pub mod Order
 pub mod SlotLaws
+pub mod SoundRoots

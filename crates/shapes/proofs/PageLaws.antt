@@ -23,7 +23,7 @@ use Rattle.model.specs.Walk.{pn1, l2Word}
 use Rattle.theory.proofs.Along.{apply-none, apply-one}
 use Rattle.theory.proofs.Memory.{put, put-other-page, put-other-entry}
 use Rattle.theory.proofs.Walks.{found-same}
-use Rattle.theory.specs.Rooted.{Good}
+use Rattle.shapes.specs.Rooted.{Good}
 use Rattle.shapes.specs.Pages.{Plain, newRun}
 use Rattle.shapes.specs.Rows.{fillStores}
 use Rattle.shapes.proofs.Shape.{Shape, pn1-of}

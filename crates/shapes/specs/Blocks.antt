@@ -11,7 +11,7 @@ use Rattle.model.specs.Walk as walk
 use Rattle.model.specs.Forms as model
 use Rattle.model.specs.Stores as stores
 use Rattle.model.specs.Calls as calls
-use Rattle.theory.specs.Rooted.{Rooted}
+use Rattle.shapes.specs.Rooted.{Rooted}
 
 -- before the edit each page of block b, whose entry is e, is of the permission that info has for its piece
 abbrev pub Even : frame.Frame → List ℕ → entry.Entry → ℕ → ℕ → Type 0

@@ -1,3 +1,4 @@
+--   Rooted   what a sound table says of an entry and of a root: the form in which contracts use it
 --   Words    an L1 entry as it stands, and as an edit leaves it
 --   Blocks   a block and a range
 --   Pages    the L1 page of a block
@@ -10,3 +11,4 @@ pub mod Pages
 pub mod Rows
 pub mod Ahead
 pub mod Slots
+pub mod Rooted

@@ -34,7 +34,6 @@
 --   NewPages     at most two new pages, and that the stores depend on those alone
 --   Demands      demands 2 and 3
 -- For the code
---   SoundRoots   what a sound table says of an entry and of a root
 -- Opening and closing
 --   Slots        one slot changes
 --   Zeroed       a page that is zeroed
@@ -69,7 +68,6 @@ pub mod Ends
 pub mod Counts
 pub mod NewPages
 pub mod Demands
-pub mod SoundRoots
 pub mod Slots
 pub mod Zeroed
 pub mod Registers

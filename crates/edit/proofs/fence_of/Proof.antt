@@ -2,7 +2,7 @@
 use mathlib.Core.Path.{sym, _∙_}
 use borrow.Author.Tests.{eq-eqb, ne-eqb, not-true, not-false}
 use borrow.Author.Needs.{needs}
-use Rattle.edit.specs.Made.{fenceAfter}
+use Rattle.sequence.specs.Made.{fenceAfter}
 use Rattle.edit.proofs.fence_of.Statement.{statement}
 use Rattle.edit.proofs.fence_of.Tie as tie
 

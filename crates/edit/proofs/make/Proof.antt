@@ -7,12 +7,12 @@ use native.Mathlib.Omega.{arith}
 use lib.ListN.{length}
 use Rattle.model.specs.Frame.{Frame, lent, boundsOk}
 use borrow.Author.Needs.{needs}
-use Rattle.edit.proofs.Answers.{all-fits, all-memory, all-count, all-true, all-fence, cut-memory, cut-count, cut-false, cut-fence}
+use Rattle.sequence.proofs.Answers.{all-fits, all-memory, all-count, all-true, all-fence, cut-memory, cut-count, cut-false, cut-fence}
 use Rattle.entries.proofs.Places.{frame-same}
-use Rattle.edit.proofs.Facts.{root-lent, bounds-in}
+use Rattle.sequence.proofs.Facts.{root-lent, bounds-in}
 use Rattle.entries.proofs.Runs.{out-whole, out-cut}
-use Rattle.edit.specs.Made.{fenceAfter}
-use Rattle.edit.specs.Blocks.{wholeList, Prepared}
+use Rattle.sequence.specs.Made.{fenceAfter}
+use Rattle.sequence.specs.Blocks.{wholeList, Prepared}
 use Rattle.entries.specs.Run.{allMade, limitReached, out, run}
 use Rattle.model.specs.Stores.{Store}
 use Rattle.types.specs.Views.{fenceOf, requestOf, freeList}

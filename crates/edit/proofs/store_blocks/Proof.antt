@@ -8,9 +8,9 @@ use Prim.Native.Nat.{ℕ, _+_, _-_, _*_, _/_, _≤_, _<_}
 use native.Mathlib.Omega.{arith}
 use borrow.Author.Tests.{not-true, not-false}
 use lib.ListN.{length}
-use Rattle.edit.proofs.Facts.{Facts, facts}
-use Rattle.edit.proofs.LoopInvariant.{LoopInvariant, turn-start, turn-rooted, turn-room, turn-flag, turn-fresh, turn-ahead, turn-cut, turn-next, turn-end}
-use Rattle.edit.proofs.Invariant.{size}
+use Rattle.sequence.proofs.Facts.{Facts, facts}
+use Rattle.sequence.proofs.LoopInvariant.{LoopInvariant, turn-start, turn-rooted, turn-room, turn-flag, turn-fresh, turn-ahead, turn-cut, turn-next, turn-end}
+use Rattle.sequence.proofs.Invariant.{size}
 use Rattle.entries.proofs.Runs.{out-whole, out-cut}
 use Rattle.types.specs.declared.Gib.{Gib}
 use Rattle.types.specs.Range.{Fair}

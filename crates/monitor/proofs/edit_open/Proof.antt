@@ -19,10 +19,10 @@ use Rattle.types.specs.declared.Free.{Free}
 use Rattle.scan.specs.Free.{listed}
 use Rattle.types.specs.Views.{requestOf, freeList}
 use Rattle.forms.specs.Permissions.{wholePages}
-use Rattle.edit.specs.Blocks.{Prepared}
-use Rattle.edit.specs.Made.{IsMade}
-use Rattle.edit.proofs.Facts.{accepted-list}
-use Rattle.theory.specs.Rooted.{Rooted}
+use Rattle.sequence.specs.Blocks.{Prepared}
+use Rattle.sequence.specs.Made.{IsMade}
+use Rattle.sequence.proofs.Facts.{accepted-list}
+use Rattle.shapes.specs.Rooted.{Rooted}
 use Rattle.monitor.specs.Edits.{InOpenSlot}
 use Rattle.monitor.proofs.EditRefusals.{noRoom, edit-range, edit-lent, edit-no-room, edit-accepted, edit-done, made-is}
 use Rattle.monitor.proofs.FreePages.{listed-front, listed-short}

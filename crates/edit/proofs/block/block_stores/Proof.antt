@@ -3,7 +3,7 @@ use mathlib.Core.Path.{_≡_, refl, sym, ap, _∙_, subst}
 use Prim.Native.Nat.{ℕ, _<_, _^_}
 use native.Mathlib.Omega.{arith}
 use borrow.Author.Needs.{needs}
-use Rattle.edit.specs.Blocks.{Encodes}
+use Rattle.sequence.specs.Blocks.{Encodes}
 use Rattle.model.specs.Entry.{encode}
 use Rattle.model.specs.Forms.{wantTable}
 use Rattle.model.specs.Stores.{needsPage, blockStores}

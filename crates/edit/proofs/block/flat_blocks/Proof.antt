@@ -4,9 +4,9 @@ use mathlib.Core.List.{List}
 use Prim.Native.Nat.{ℕ, _+_, _-_, _*_, _%_, _≤_, _<_}
 use native.Mathlib.Omega.{arith}
 use lib.ListN.{drop}
-use Rattle.edit.proofs.BlockRows.{row-stores, row-pages, flat-entry}
+use Rattle.sequence.proofs.BlockRows.{row-stores, row-pages, flat-entry}
 use Rattle.entries.specs.Rows.{rowStores}
-use Rattle.edit.specs.Steps.{storesOver}
+use Rattle.sequence.specs.Steps.{storesOver}
 use Rattle.entries.specs.Ahead.{Ahead}
 use Rattle.entries.proofs.Order.{ahead-of}
 use Rattle.entries.specs.Run.{run}

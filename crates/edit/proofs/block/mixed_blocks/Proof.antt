@@ -4,10 +4,10 @@ use mathlib.Core.List.{List, headD}
 use Prim.Native.Nat.{ℕ, _+_, _-_, _%_, _^_, _≤_, _<_}
 use native.Mathlib.Omega.{arith}
 use lib.ListN.{drop, getD}
-use Rattle.edit.proofs.BlockRows.{Entrywise, ahead-over, row-stores, row-pages, pieces-entry}
+use Rattle.sequence.proofs.BlockRows.{Entrywise, ahead-over, row-stores, row-pages, pieces-entry}
 use Rattle.entries.proofs.RowLaws.{row-none}
-use Rattle.edit.specs.Blocks.{HasNewPage}
-use Rattle.edit.specs.Steps.{Advanced, storesOver}
+use Rattle.sequence.specs.Blocks.{HasNewPage}
+use Rattle.sequence.specs.Steps.{Advanced, storesOver}
 use Rattle.entries.specs.Ahead.{Ahead}
 use Rattle.entries.proofs.Order.{ahead-of}
 use Rattle.entries.specs.Rows.{rowStores, piecesWord, PiecesAhead}
@@ -16,7 +16,7 @@ use Rattle.entries.proofs.Places.{place}
 use Rattle.types.specs.Range.{Fair}
 use Rattle.model.specs.Frame.{blocks, indexOf}
 use Rattle.model.specs.Stores.{Store}
-use Rattle.theory.specs.Rooted.{Rooted}
+use Rattle.shapes.specs.Rooted.{Rooted}
 use borrow.Author.Needs.{needs}
 use Rattle.edit.proofs.block.mixed_blocks.Statement.{statement}
 use Rattle.edit.proofs.block.mixed_blocks.Tie as tie

@@ -9,17 +9,17 @@ use Rattle.model.specs.Stores.{Store, blockStores, needsPage}
 use Rattle.model.specs.Forms.{Form, formIn}
 use Rattle.model.specs.Frame.{lent}
 use borrow.Author.Needs.{needs}
-use Rattle.edit.proofs.Facts.{form-encodes}
-use Rattle.edit.proofs.BlockRows.{over-one, pages-one}
-use Rattle.edit.specs.Blocks.{Encodes, storesAt}
-use Rattle.edit.specs.Steps.{storesOver}
+use Rattle.sequence.proofs.Facts.{form-encodes}
+use Rattle.sequence.proofs.BlockRows.{over-one, pages-one}
+use Rattle.sequence.specs.Blocks.{Encodes, storesAt}
+use Rattle.sequence.specs.Steps.{storesOver}
 use Rattle.entries.proofs.Order.{ahead-of}
 use Rattle.entries.specs.Run.{run}
 use Rattle.forms.specs.Permissions.{formAt}
 use Rattle.model.specs.Entry.{Entry}
 use Rattle.model.specs.Numbers.{if_then_else_}
 use Rattle.types.specs.Views.{entryOf, requestOf, formOf, freeList}
-use Rattle.theory.specs.Rooted.{Good}
+use Rattle.shapes.specs.Rooted.{Good}
 use Rattle.edit.proofs.block.one_block.Statement.{statement}
 use Rattle.edit.proofs.block.one_block.Tie as tie
 use Rattle.table.specs.Board.{board, WORDS, frameOf}

@@ -9,7 +9,7 @@ use Rattle.entries.proofs.Places.{frame-same}
 use Rattle.entries.proofs.Runs.{went-whole, went-cut}
 use Rattle.types.specs.Views.{requestOf}
 use Rattle.model.specs.Entry.{table}
-use Rattle.theory.specs.Rooted.{Good}
+use Rattle.shapes.specs.Rooted.{Good}
 use Rattle.entries.proofs.own.same_table.Statement.{statement}
 use Rattle.entries.proofs.own.same_table.Tie as tie
 

@@ -12,7 +12,7 @@ use Rattle.model.specs.Entry.{Entry}
 use Rattle.model.specs.Forms.{allAre, gibIsOne}
 use Rattle.model.specs.Numbers.{every}
 use Rattle.types.specs.Views.{entryOf, requestOf}
-use Rattle.theory.specs.Rooted.{Good}
+use Rattle.shapes.specs.Rooted.{Good}
 use Rattle.forms.proofs.gibs.blocks_are.Statement.{statement}
 use Rattle.forms.proofs.gibs.blocks_are.Tie as tie
 

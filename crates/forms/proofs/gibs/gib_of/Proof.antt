@@ -7,7 +7,7 @@ use borrow.Author.Needs.{needs}
 use Rattle.table.specs.Board.{WORDS}
 use Rattle.forms.proofs.GibLaws.{inside-first, inside-one}
 use Rattle.types.specs.Views.{entryOf, requestOf}
-use Rattle.theory.specs.Rooted.{Good}
+use Rattle.shapes.specs.Rooted.{Good}
 use Rattle.forms.proofs.gibs.gib_of.Statement.{statement}
 use Rattle.forms.proofs.gibs.gib_of.Tie as tie
 

@@ -8,7 +8,7 @@ use Rattle.forms.proofs.GibLaws.{first-of, mixed-gib}
 use Rattle.types.specs.Range.{Meets}
 use Rattle.model.specs.Entry.{Entry}
 use Rattle.model.specs.Forms.{afterIn, gibFirst}
-use Rattle.theory.specs.Rooted.{Good}
+use Rattle.shapes.specs.Rooted.{Good}
 use borrow.Author.Needs.{needs}
 use Rattle.forms.proofs.gibs.read_gib.Statement.{statement}
 use Rattle.types.specs.Views.{requestOf}

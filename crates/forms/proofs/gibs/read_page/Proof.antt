@@ -10,7 +10,7 @@ use Rattle.model.specs.Forms as model
 use Rattle.model.specs.Stores.{needsPage}
 use Rattle.model.specs.Walk as walk
 use Rattle.types.specs.Views.{entryOf, requestOf}
-use Rattle.theory.specs.Rooted.{Good}
+use Rattle.shapes.specs.Rooted.{Good}
 use borrow.Author.Needs.{needs}
 use Rattle.forms.proofs.gibs.read_page.Statement.{statement}
 use Rattle.forms.proofs.gibs.read_page.Tie as tie

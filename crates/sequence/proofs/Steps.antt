@@ -9,8 +9,8 @@ use native.Mathlib.Omega.{arith}
 use native.Mathlib.Numerals.{add-one}
 use lib.ListN.{drop}
 use Rattle.entries.proofs.Runs.{run-none, run-on, run-off}
-use Rattle.edit.specs.Blocks.{storesAt, wholeList}
-use Rattle.edit.specs.Steps.{storesOver, pagesOver}
+use Rattle.sequence.specs.Blocks.{storesAt, wholeList}
+use Rattle.sequence.specs.Steps.{storesOver, pagesOver}
 use Rattle.entries.specs.Run.{Out, allMade, limitReached, run}
 use Rattle.types.specs.declared.Budget.{Budget}
 use Rattle.types.specs.declared.Gib.{Gib}
@@ -26,10 +26,10 @@ use Rattle.theory.proofs.Forms.{same-form}
 use Rattle.theory.proofs.Walks.{entry-word}
 use Rattle.laws.proofs.Fronts.{drop-tail}
 use Rattle.entries.proofs.Places.{frame-same}
-use Rattle.edit.proofs.Facts.{Facts}
+use Rattle.sequence.proofs.Facts.{Facts}
 use Rattle.forms.proofs.BoardShape.{board-shape}
 use Rattle.shapes.proofs.PageLaws.{stores-same}
-use Rattle.edit.proofs.Invariant.{Invariant, after-same, going-cut, going-next, size}
+use Rattle.sequence.proofs.Invariant.{Invariant, after-same, going-cut, going-next, size}
 use Rattle.types.specs.declared.Frame as code
 use Rattle.table.specs.Board.{frameOf}
 

@@ -4,8 +4,8 @@ use mathlib.Core.List.{List, headD}
 use Prim.Native.Nat.{ℕ, _+_, _*_, _-_, _/_, _%_, _^_, _≤_, _<_}
 use native.Mathlib.Omega.{arith}
 use lib.ListN.{drop}
-use Rattle.edit.specs.Blocks.{HasNewPage, wholeList}
-use Rattle.edit.specs.Steps.{storesOver, pagesOver}
+use Rattle.sequence.specs.Blocks.{HasNewPage, wholeList}
+use Rattle.sequence.specs.Steps.{storesOver, pagesOver}
 use Rattle.entries.specs.Ahead.{Ahead}
 use Rattle.entries.proofs.Order.{ahead-of}
 use Rattle.entries.specs.Run.{Out, allMade, limitReached, run}
@@ -15,11 +15,11 @@ use Rattle.forms.specs.Permissions.{GibIs}
 use Rattle.model.specs.Forms.{Request, firstGib, gibs}
 use Rattle.model.specs.Frame.{Frame, blocks}
 use Rattle.model.specs.Stores.{Store}
-use Rattle.theory.specs.Rooted.{Rooted}
+use Rattle.shapes.specs.Rooted.{Rooted}
 use Rattle.entries.proofs.Places.{frame-same}
-use Rattle.edit.proofs.Facts.{Facts}
-use Rattle.edit.proofs.Invariant.{Invariant, fresh, gib-back, gib-same, going-ahead, going-end, going-start, rooted, size}
-use Rattle.edit.proofs.Steps.{Ends, going-over, over-same, pages-same}
+use Rattle.sequence.proofs.Facts.{Facts}
+use Rattle.sequence.proofs.Invariant.{Invariant, fresh, gib-back, gib-same, going-ahead, going-end, going-start, rooted, size}
+use Rattle.sequence.proofs.Steps.{Ends, going-over, over-same, pages-same}
 use Rattle.types.specs.declared.Frame as code
 use Rattle.types.specs.declared.Gib as gibs′
 use Rattle.table.specs.Board.{frameOf}

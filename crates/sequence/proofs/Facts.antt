@@ -5,7 +5,7 @@ use mathlib.Core.List.{List}
 use Prim.Native.Nat.{ℕ, _+_, _*_, _^_, _≤_, _<_, min, _%_}
 use native.Mathlib.Omega.{arith}
 use lib.ListN.{length, take, drop, length-take, take-append-drop}
-use Rattle.edit.specs.Blocks.{Encodes, Prepared, wholeList}
+use Rattle.sequence.specs.Blocks.{Encodes, Prepared, wholeList}
 use Rattle.entries.specs.Ahead.{Ahead}
 use Rattle.entries.proofs.Order.{ahead-of, ahead-start}
 use Rattle.laws.proofs.Choices.{and-true}
@@ -14,9 +14,9 @@ use Rattle.model.specs.Forms.{Request, formIn, forms, firstGib, gibs}
 use Rattle.model.specs.Frame.{Frame, lent, blocks, space, boundsOk, frameOk}
 use Rattle.model.specs.Stores.{newPages}
 use Rattle.model.specs.Walk.{entryPage}
-use Rattle.theory.specs.Rooted.{Good}
+use Rattle.shapes.specs.Rooted.{Good}
 use lib.Pow.{pow-mono}
-use Rattle.edit.proofs.Answers.{list-is}
+use Rattle.sequence.proofs.Answers.{list-is}
 use Rattle.laws.proofs.Sums.{times-measure}
 use Rattle.theory.proofs.NewPages.{two-pages}
 use Rattle.laws.proofs.Times.{times, times-append}

@@ -10,8 +10,8 @@ use lib.ListN.{length, drop, length-append, length-drop}
 use Rattle.entries.specs.Ahead.{Ahead}
 use Rattle.entries.proofs.Order.{Remaining, remaining-start, remaining-end, remaining-ahead, remaining-next, remaining-cut}
 use Rattle.entries.proofs.Runs.{run-whole}
-use Rattle.edit.specs.Blocks.{storesAt, HasNewPage, wholeList}
-use Rattle.edit.specs.Steps.{storesOver}
+use Rattle.sequence.specs.Blocks.{storesAt, HasNewPage, wholeList}
+use Rattle.sequence.specs.Steps.{storesOver}
 use Rattle.entries.specs.Run.{Out, allMade, limitReached, run}
 use Rattle.types.specs.declared.Budget.{Budget}
 use Rattle.types.specs.declared.Gib.{Gib}
@@ -24,10 +24,10 @@ use Rattle.model.specs.Numbers.{if_then_else_}
 use Rattle.model.specs.Stores.{Store, apply, blockStores, needsPage, storesFrom, newPages}
 use Rattle.model.specs.Walk.{entryAt, walk}
 use Rattle.theory.proofs.Walks.{entry-word}
-use Rattle.theory.specs.Rooted.{Rooted}
+use Rattle.shapes.specs.Rooted.{Rooted}
 use native.Mathlib.Numerals.{add-one}
 use Rattle.forms.proofs.CountLaws.{formOfBlock}
-use Rattle.theory.proofs.SoundRoots.{sound-rooted}
+use Rattle.shapes.proofs.SoundRoots.{sound-rooted}
 use Rattle.laws.proofs.Times.{times, times-here}
 use Rattle.theory.proofs.Finds.{after-outside, after-inside}
 use Rattle.theory.proofs.Forms.{forms-fit, forms-all, forms-length, same-form, same-gib, same-first}
@@ -36,7 +36,7 @@ use Rattle.theory.proofs.OneCall.{At, spot, next as at-next, at-start}
 use Rattle.theory.proofs.Plans.{AllAt, FitsAll, Call}
 use Rattle.laws.proofs.Fronts.{drop-tail}
 use Rattle.entries.proofs.Places.{frame-same}
-use Rattle.edit.proofs.Facts.{Facts}
+use Rattle.sequence.proofs.Facts.{Facts}
 use Rattle.forms.proofs.BoardShape.{board-shape}
 use Rattle.shapes.proofs.PageLaws.{stores-same}
 use Rattle.types.specs.declared.Frame as code

@@ -10,8 +10,8 @@ use lib.Seq.{getD-take, length-take-le, take-all}
 use borrow.Author.Tests.{le-leb, lt-leb, ne-eqb}
 use Rattle.model.specs.Calls.{finished, rootOf, storeList, storeListWith}
 use Rattle.entries.proofs.Runs.{run-whole, run-short}
-use Rattle.edit.specs.Made.{fenceAfter}
-use Rattle.edit.specs.Blocks.{wholeList}
+use Rattle.sequence.specs.Made.{fenceAfter}
+use Rattle.sequence.specs.Blocks.{wholeList}
 use Rattle.entries.specs.Run.{allMade, limitReached, runFrom, run}
 use Rattle.types.specs.declared.Budget.{Budget}
 use Rattle.laws.proofs.Choices.{split}

@@ -5,8 +5,8 @@ use mathlib.Core.List.{List, headD}
 use Prim.Native.Nat.{ℕ, _+_, _-_, _*_, _≤_, _<_}
 use native.Mathlib.Omega.{arith}
 use lib.ListN.{getD}
-use Rattle.edit.specs.Blocks.{storesAt}
-use Rattle.edit.specs.Steps.{storesOver, pagesOver}
+use Rattle.sequence.specs.Blocks.{storesAt}
+use Rattle.sequence.specs.Steps.{storesOver, pagesOver}
 use Rattle.entries.specs.Ahead.{Ahead}
 use Rattle.entries.proofs.Order.{ahead-of, ahead-first}
 use Rattle.entries.specs.Rows.{rowStores, piecesWord}
@@ -19,7 +19,7 @@ use Rattle.model.specs.Numbers.{if_then_else_}
 use Rattle.model.specs.Stores.{needsPage}
 use Rattle.model.specs.Walk.{entryAt}
 use Rattle.shapes.proofs.BlockLaws as blocks
-use Rattle.theory.specs.Rooted.{Good}
+use Rattle.shapes.specs.Rooted.{Good}
 use Rattle.types.specs.declared.Frame as code
 use Rattle.table.specs.Board.{frameOf, TYPEUNIT}
 pub use Rattle.shapes.proofs.BlockLaws.{changed-l2}

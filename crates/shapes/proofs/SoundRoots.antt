@@ -7,13 +7,13 @@ use Rattle.model.specs.Entry.{Entry, flat, invalid, pieces, table}
 use Rattle.model.specs.Frame.{Frame, blocks}
 use Rattle.model.specs.Walk.{entryAt, entryPage}
 use Rattle.laws.proofs.Times.{times}
-use Rattle.theory.specs.Rooted.{Good, Rooted}
+use Rattle.shapes.specs.Rooted.{Good, Rooted}
 use Rattle.theory.proofs.Entries.{Small}
 use Rattle.theory.proofs.Frames.{Ok, blocks-pos, blocks-few}
 use Rattle.theory.proofs.Tables.{Sound, link-in}
 use Rattle.theory.proofs.Used.{passes}
 use Rattle.theory.proofs.Finds.{entry-small}
 use Rattle.theory.proofs.Steps.{root-lent}
 
 module _ (F : Frame) (ok : Ok F) (rs m : List ℕ) (s : Sound F rs m) where
   good-of : (r b : ℕ) → 0 < times r rs → b < blocks F → (e : Entry) → entryAt F m r b ≡ e → Small (F .layout) (ok .lawful) e → Good F m e
