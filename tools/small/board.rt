@@ -11,7 +11,7 @@ pub const PAGE_WORDS: usize = 1024;
 
 pub const FIELDS: u64 = 8;
 
-// "TYPE 5 is eight two-bit permissions for 4 MiB each."
+// "TYPE 5 is eight two-bit permissions for 4 MiB each".
 pub const PIECES: u64 = 8;
 
 pub const PIECE_PAGES: u64 = 1024;
@@ -48,6 +48,11 @@ pub const SDID: u64 = 0x100_0000;
 pub const MODE: u64 = 0x4000_0000;
 
 pub const WPRI_VALUES: u64 = 4;
+
+// "PAW 30 to 34", and as many lent pages as the big board has.
+pub const MAX_PAW: u64 = 34;
+
+pub const MAX_PAGES: u64 = 256;
 
 // 1 in each piece; 1 in each field; and the reserved bits, the high two of each field.
 pub const EACH_PIECE: u64 = 0x5555;

@@ -2,7 +2,6 @@
 use crate::KindCode;
 use crate::PermissionCode;
 use crate::PrivilegeCode;
-use monitor::Outcome;
 use monitor::Reply;
 use table::board::Word;
 use types::Access;
@@ -13,10 +12,10 @@ use types::Permission;
 use types::Privilege;
 use types::number;
 use types::rights;
+ghost use Rattle.model.specs.Numbers.{if_then_else_};
 ghost use mathlib.Core.Path.{_≡_};
 ghost use Prim.Native.Nat.{ℕ, _<_, _^_};
 ghost use lib.ListN.{getD};
-ghost use Rattle.model.specs.Numbers.{if_then_else_};
 ghost use Rattle.model.specs.Access.{fault, causeOf, originalOf};
 ghost use Rattle.types.specs.Views.{kindOf, answerOf, fenceOf, replyOf};
 ghost use Rattle.api.specs.Codes.{privilegeAt, kindAt, permissionAt, privilegeCodeOf, kindCodeOf, permissionCodeOf, answerWord, fenceWord, replyWord};
@@ -94,7 +93,7 @@ pub fn fault_word(kind: Kind) -> u64
     256 + number::of_cause(rights::cause_of(kind))
 }
 
-// KindCode a lookup answers. no: its access's fault, which is at hand before the lookup, so that the answer is a choice of two words.
+// What a lookup answers. no: its access's fault, which is at hand before the lookup, so that the answer is a choice of two words.
 pub fn answer_word(a: Answer, no: u64) -> u64
     requires { ⌜ ((cause : ℕ) → answerOf a ≡ fault cause → no ≡ answerWord (fault cause)) ⌝ }
     ensures { λ r. ⌜ r ≡ answerWord (answerOf a) ⌝ }

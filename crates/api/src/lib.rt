@@ -46,7 +46,7 @@ pub enum PermissionCode {
     Unknown,
 }
 
-// KindCode an open answers, in one word.
+// What an open answers, in one word.
 fn opened_word(o: Outcome, slot: u64) -> u64
     ensures { λ r. ⌜ ((m : List ℕ) → r ≡ openedWord (outcomeOf o m) slot) ⌝ }
 {
@@ -56,7 +56,7 @@ fn opened_word(o: Outcome, slot: u64) -> u64
     reply_word(reply, fence, wide(slot_at(slots, slot)))
 }
 
-// KindCode a close or an edit answers, in one word. The slots are not looked at.
+// What a close or an edit answers, in one word. The slots are not looked at.
 fn done_word(o: Outcome) -> u64
     ensures { λ r. ⌜ ((m : List ℕ) → r ≡ doneWord (outcomeOf o m)) ⌝ }
 {

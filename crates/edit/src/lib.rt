@@ -15,7 +15,6 @@ use types::Gib;
 use types::Made;
 use types::PageNumber;
 use types::Progress;
-use types::Request;
 use types::Sdid;
 use types::pages::GIB_BLOCKS;
 use types::pages::GIB_BYTES;

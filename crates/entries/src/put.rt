@@ -3,6 +3,7 @@ use table::board::Word;
 use table::store::store_word;
 use types::Budget;
 use types::Progress;
+ghost use Rattle.model.specs.Numbers.{if_then_else_};
 ghost use mathlib.Core.Path.{_≡_};
 ghost use mathlib.Core.List.{List, [], _∷_};
 ghost use Prim.Native.Nat.{_<_};
@@ -11,7 +12,6 @@ ghost use lib.ListN.{length, getD};
 ghost use Rattle.entries.specs.Ahead.{Ahead, Turned};
 ghost use Rattle.entries.specs.Run.{allMade, out, run};
 ghost use Rattle.table.specs.Stored.{storeOf};
-ghost use Rattle.model.specs.Numbers.{if_then_else_};
 ghost use Rattle.model.specs.Stores.{Store};
 
 // One store, where one more may be made: the next of an edit's list. Every store of an edit is made here.

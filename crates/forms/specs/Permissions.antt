@@ -3,6 +3,7 @@ use mathlib.Core.Path.{_≡_}
 use mathlib.Core.Bool.{Bool}
 use mathlib.Core.List.{List}
 use Prim.Native.Nat.{ℕ, _+_, _*_, _<_}
+use Rattle.model.specs.Layout.{blockPages}
 use Rattle.model.specs.Entry as entry
 use Rattle.model.specs.Frame as frame
 use Rattle.model.specs.Walk as walk
@@ -30,7 +31,7 @@ Mixes = blocks.Mixes board
 -- what piece says is so of piece i of block b, whose entry is e
 abbrev pub PieceIs : frame.Frame → List ℕ → model.Request → entry.Entry → ℕ → ℕ → Piece → Type 0
 PieceIs F m q e b i piece =
-    (piece .p ≡ model.afterIn F m q e (b * 8192 + i * PIECE)) × (piece .one ≡ model.allAre F m q e (piece .p) PIECE (b * 8192 + i * PIECE)) × (piece .p < 4)
+    (piece .p ≡ model.afterIn F m q e (b * blockPages + i * PIECE)) × (piece .one ≡ model.allAre F m q e (piece .p) PIECE (b * blockPages + i * PIECE)) × (piece .p < 4)
 
 -- what gib says is so of GiB g
 abbrev pub GibIs : frame.Frame → List ℕ → model.Request → ℕ → ℕ → Gib → Type 0

@@ -7,6 +7,7 @@ use table::board::PIECE_PAGES;
 use table::board::PIECE_WORDS;
 use table::board::PIECES;
 use table::board::Word;
+use table::board::wide;
 use table::lent::page_at;
 use table::word::FIELD_VALUES;
 use table::word::piece;
@@ -14,7 +15,6 @@ use types::Edit;
 use types::Entry;
 use types::Piece;
 use types::Place;
-use types::Request;
 use types::pages::BLOCK_PAGES;
 use types::pages::lies;
 ghost use Rattle.model.specs.Layout.{blockPages};
@@ -128,7 +128,7 @@ pub fn piece_first(edit: Edit, words: &[Word], e: Entry, b: u64, i: u64) -> u64
     requires { ⌜ (b < BLOCKS) × (i < PIECES) × Fair (edit .q) × Good (frameOf (edit .f) (now words)) (now words) (entryOf e) ⌝ }
     ensures { λ r. ⌜ (r ≡ afterIn (frameOf (edit .f) (now (words .entry))) (now (words .entry)) (requestOf (edit .q)) (entryOf e) (b * blockPages + i * PIECE)) × (r < 4) ⌝ }
 {
-    after_word(edit, words, e, b, i * PIECE_WORDS) as u64 % FIELD_VALUES
+    wide(after_word(edit, words, e, b, i * PIECE_WORDS)) % FIELD_VALUES
 }
 
 // The same for a piece outside the range.
@@ -136,7 +136,7 @@ fn old_first(edit: Edit, words: &[Word], e: Entry, b: u64, i: u64) -> u64
     requires { ⌜ (b < BLOCKS) × (i < PIECES) × Fair (edit .q) × Good (frameOf (edit .f) (now words)) (now words) (entryOf e) × Lies (requestOf (edit .q)) (b * blockPages + i * PIECE) PIECE Place.Outside ⌝ }
     ensures { λ r. ⌜ (r ≡ afterIn (frameOf (edit .f) (now (words .entry))) (now (words .entry)) (requestOf (edit .q)) (entryOf e) (b * blockPages + i * PIECE)) × (r < 4) ⌝ }
 {
-    old_word(edit.f, words, e, i * PIECE_WORDS) as u64 % FIELD_VALUES
+    wide(old_word(edit.f, words, e, i * PIECE_WORDS)) % FIELD_VALUES
 }
 
 // A piece outside the range: its permission, and whether it is all the piece's.

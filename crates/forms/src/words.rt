@@ -4,6 +4,7 @@ use table::board::FIELDS;
 use table::board::PIECE_WORDS;
 use table::board::Word;
 use table::board::narrow;
+use table::board::wide;
 use table::lent::page_at;
 use table::word::FIELD_BITS;
 use table::word::piece;
@@ -59,7 +60,7 @@ fn splice_fields(low: Word, high: Word, k: u64) -> Word
     if k == FIELDS {
         return low;
     }
-    narrow(splice(low as u64, high as u64, FIELD_BITS * k))
+    narrow(splice(wide(low), wide(high), FIELD_BITS * k))
 }
 
 // The L1 entry of the pages from s that stands across an end of the range.

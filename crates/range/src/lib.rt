@@ -1,3 +1,3 @@
-// What an edit asks: whether its range is a good one, and where pages lie, seen from the range.
+// The range of an edit: whether it is a good one, and which L1 entries it can meet.
 pub mod bounds;
 pub mod pages;

@@ -1,14 +1,13 @@
-// Where pages lie, seen from the range of an edit.
+// The L1 entries of a block that the range of an edit can meet.
 use table::board::FIELDS;
 use table::board::PAGE_WORDS;
-use types::Place;
 use types::Request;
 use types::pages::PAGE_BYTES;
 ghost use Rattle.table.specs.Board.{BLOCKS, WORDS};
 ghost use Prim.Native.Nat.{_+_, _≤_, _<_, _^_};
 ghost use Rattle.range.specs.EntryBounds.{Below, Past};
 ghost use Rattle.types.specs.Views.{requestOf};
-ghost use Rattle.types.specs.Range.{Fair, Lies, Meets, Cut};
+ghost use Rattle.types.specs.Range.{Fair};
 
 // The bytes that an L1 entry speaks for.
 const ENTRY_BYTES: u64 = FIELDS * PAGE_BYTES;

@@ -3,6 +3,7 @@ use mathlib.Core.Path.{_≡_}
 use mathlib.Core.List.{List}
 use Prim.Native.Nat.{ℕ, _+_, _%_, _≤_}
 use lib.ListN.{drop}
+use Rattle.model.specs.Layout.{gibBlocks}
 use Rattle.model.specs.Frame as frame
 use Rattle.model.specs.Forms as model
 use Rattle.model.specs.Stores as stores
@@ -23,4 +24,4 @@ pub record Advanced (F : frame.Frame) (m : List ℕ) (q : model.Request) (root :
   pub made : out (step .all) (step .left) m′ ≡ run left (storesOver F m q root gib (step .count) b (drop next free)) m
   pub pages : step .next ≡ next + pagesOver F m q root gib (step .count) b
   pub some : 1 ≤ step .count
-  pub within : b % 32 + step .count ≤ 32
+  pub within : b % gibBlocks + step .count ≤ gibBlocks

@@ -1,1 +1,1 @@
-// What an L1 entry and a block become, by runs of pages: laws over every lawful layout. There is no code here.
+// The laws of entries, forms, counts, pages, rows, stores and slots, once, over any lawful layout. No code stands here.

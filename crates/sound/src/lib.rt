@@ -4,6 +4,7 @@ pub mod pick;
 use table::board::PAGE_WORDS;
 use table::board::RESERVED;
 use table::board::Word;
+use table::board::wide;
 use table::lent;
 use table::register;
 use table::word;
@@ -31,7 +32,7 @@ fn clean(words: &[Word], at: usize) -> bool
 {
     let mut all: u64 = 0;
     for i in 0..PAGE_WORDS {
-        all |= words[at + i] as u64;
+        all |= wide(words[at + i]);
     }
     all & RESERVED == 0
 }

@@ -49,6 +49,11 @@ pub const MODE: u64 = 0x1000_0000_0000_0000;
 
 pub const WPRI_VALUES: u64 = 1024;
 
+// "PAW (30 to 34), lent table memory of 2 to 256 whole pages."
+pub const MAX_PAW: u64 = 34;
+
+pub const MAX_PAGES: u64 = 256;
+
 // 1 in each piece; 1 in each field; and the reserved bits, the high two of each field.
 pub const EACH_PIECE: u64 = 0x5555_5555;
 

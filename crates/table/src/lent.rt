@@ -1,4 +1,6 @@
 // The frame: its bounds, which pages are lent, and where their words stand.
+use crate::board::MAX_PAGES;
+use crate::board::MAX_PAW;
 use crate::board::PAGE_WORDS;
 use crate::board::Word;
 use types::Frame;
@@ -14,11 +16,7 @@ ghost use Rattle.table.specs.Board.{board, BLOCKS, frameOf, frameOver};
 // "PAW (30 to 34), lent table memory of 2 to 256 whole pages"
 const MIN_PAW: u64 = 30;
 
-const MAX_PAW: u64 = 34;
-
 const MIN_PAGES: u64 = 2;
-
-const MAX_PAGES: u64 = 256;
 
 // A frame that breaks its bounds, or memory that is not whole pages, is refused by every call.
 pub fn frame_ok(f: Frame, words: &[Word]) -> bool

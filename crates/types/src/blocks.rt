@@ -3,11 +3,11 @@ use crate::Entry;
 use crate::Form;
 use crate::Free;
 use crate::PageNumber;
+ghost use Rattle.model.specs.Numbers.{if_then_else_};
 ghost use mathlib.Core.Path.{_≡_};
 ghost use mathlib.Core.List.{headD};
 ghost use Prim.Native.Nat.{_+_, _<_, _^_};
 ghost use lib.ListN.{drop};
-ghost use Rattle.model.specs.Numbers.{if_then_else_};
 ghost use Rattle.model.specs.Stores.{needsPage};
 ghost use Rattle.types.specs.Views.{entryOf, formOf, freeList};
 

@@ -33,14 +33,17 @@ abbrev μ-loop : tie.MeasureT-loop
 loop-holds : tie.Need-loop-holds Inv-loop μ-loop
 loop-holds c = (omega arith, refl)
 
-add-all : tie.Need-add-all Inv-loop μ-loop
-add-all c = omega arith
+add-wide : tie.Need-add-wide Inv-loop μ-loop
+add-wide c = omega arith
 
-mul-all : tie.Need-mul-all Inv-loop μ-loop
-mul-all c = search needs
+mul-wide : tie.Need-mul-wide Inv-loop μ-loop
+mul-wide c = search needs
 
-shared-slice-read-all : tie.Need-shared-slice-read-all Inv-loop μ-loop
-shared-slice-read-all c = omega arith
+shared-slice-read-wide : tie.Need-shared-slice-read-wide Inv-loop μ-loop
+shared-slice-read-wide c = omega arith
+
+wide-requires : tie.Need-wide-requires Inv-loop μ-loop
+wide-requires c κs = search needs
 
 add-i : tie.Need-add-i Inv-loop μ-loop
 add-i c = omega arith
@@ -50,19 +53,20 @@ loop-less c = omega arith
 
 loop-again : tie.Need-loop-again Inv-loop μ-loop
 loop-again c =
-    let l = c .before .before in
-    let a = l .before .args in
+    let l = c .before .before .before in
+    let a = l .before .before .args in
     let h : l .loop .i < W = omega arith in
     let rest : Bool = every (test (a .words .now) (a .at)) (W - (l .loop .i + 1)) (l .loop .i + 1) in (
       omega arith,
       l .loop .inv .1
           ∙ ap (λ (b : Bool). eqb (bitAnd (l .loop .all) (reserved board)) 0 && b) (every-next (test (a .words .now) (a .at)) W (l .loop .i) h)
-          ∙ gathered board (l .loop .all) (getD (a .words .now) (a .at + l .loop .i) 0) rest,
+          ∙ gathered board (l .loop .all) (getD (a .words .now) (a .at + l .loop .i) 0) rest
+          ∙ ap (λ (x : ℕ). eqb (bitAnd (bitOr (l .loop .all) x) (reserved board)) 0 && rest) (sym (c .wide .ensures .0)),
     )
 
 returns : tie.Need-returns Inv-loop μ-loop
 returns c = let l = c .before in
-    let a = l .before .args in
+    let a = l .before .before .args in
     let h : W ≤ l .loop .i = omega arith in
     sym (l .loop .inv .1
     ∙ ap (λ (b : Bool). eqb (bitAnd (l .loop .all) (reserved board)) 0 && b) (every-none (test (a .words .now) (a .at)) W (l .loop .i) h)
@@ -75,9 +79,10 @@ clean-spec =
     Inv-loop
     μ-loop
     loop-holds
-    add-all
-    mul-all
-    shared-slice-read-all
+    add-wide
+    mul-wide
+    shared-slice-read-wide
+    wide-requires
     add-i
     loop-less
     loop-again

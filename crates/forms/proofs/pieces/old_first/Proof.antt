@@ -17,16 +17,20 @@ mul-old-word c = search needs
 old-word-requires : tie.Need-old-word-requires
 old-word-requires c κs = search needs
 
+wide-requires : tie.Need-wide-requires
+wide-requires c κs = search needs
+
 returns : tie.Need-returns
-returns c = let a = c .before .before .args in
-    let pre = c .before .before .pre in
+returns c = let a = c .before .before .before .args in
+    let pre = c .before .before .before .pre in
     let u = pre .1 in
     let z : a .b * 8192 + a .i * ROW * FIELDS ≡ a .b * 8192 + a .i * PIECE = omega arith in
-    let e : c .old-word .result % 16 ≡ afterIn (frameOf (a .edit .f) (a .words .now)) (a .words .now) (requestOf (a .edit .q)) (entryOf (a .e)) (a .b * 8192 + a .i * PIECE)
+    let e : c .wide .result % 16 ≡ afterIn (frameOf (a .edit .f) (a .words .now)) (a .words .now) (requestOf (a .edit .q)) (entryOf (a .e)) (a .b * 8192 + a .i * PIECE)
     = ap (λ (k : ℕ). k % 16)
-    (c .old-word .ensures
+    (c .wide .ensures .0
+    ∙ c .before .old-word .ensures
     ∙ word-outside (a .edit .f .paw) (a .edit .f .first .0) (length (a .words .now) / WORDS) (a .words .now) (requestOf (a .edit .q)) (pre .2 .small) (entryOf (a .e)) (pre .3) (a .b) (a .i * ROW) (omega arith)
-    (subst (λ (k : ℕ). k < ENTRY) (c .old-word .ensures) (omega arith)) (λ k lo hi. pre .4 k (omega arith) (omega arith)))
+    (subst (λ (k : ℕ). k < ENTRY) (c .before .old-word .ensures) (omega arith)) (λ k lo hi. pre .4 k (omega arith) (omega arith)))
     ∙ first-field (a .edit .f .paw) (a .edit .f .first .0) (length (a .words .now) / WORDS) (a .words .now) (requestOf (a .edit .q)) (pre .2 .small) (entryOf (a .e)) (pre .3) (a .b) (a .i * ROW)
     ∙ ap (afterIn (frameOf (a .edit .f) (a .words .now)) (a .words .now) (requestOf (a .edit .q)) (entryOf (a .e))) z in (
       e,
@@ -35,4 +39,4 @@ returns c = let a = c .before .before .args in
     )
 
 pub old-first-spec : {M : Type 1} → statement M
-old-first-spec = tie.close (tie.spec mul-old-word old-word-requires returns)
+old-first-spec = tie.close (tie.spec mul-old-word old-word-requires wide-requires returns)

@@ -17,13 +17,16 @@ mul-after-word c = search needs
 after-word-requires : tie.Need-after-word-requires
 after-word-requires c κs = search needs
 
+wide-requires : tie.Need-wide-requires
+wide-requires c κs = search needs
+
 returns : tie.Need-returns
 returns c =
-    let a = c .before .before .args in
-    let pre = c .before .before .pre in
+    let a = c .before .before .before .args in
+    let pre = c .before .before .before .pre in
     let z : a .b * 8192 + a .i * ROW * FIELDS ≡ a .b * 8192 + a .i * PIECE = omega arith in
-    let e : c .after-word .result % 16 ≡ afterIn (frameOf (a .edit .f) (a .words .now)) (a .words .now) (requestOf (a .edit .q)) (entryOf (a .e)) (a .b * 8192 + a .i * PIECE)
-    = ap (λ (k : ℕ). k % 16) (c .after-word .ensures)
+    let e : c .wide .result % 16 ≡ afterIn (frameOf (a .edit .f) (a .words .now)) (a .words .now) (requestOf (a .edit .q)) (entryOf (a .e)) (a .b * 8192 + a .i * PIECE)
+    = ap (λ (k : ℕ). k % 16) (c .wide .ensures .0 ∙ c .before .after-word .ensures)
     ∙ first-field (a .edit .f .paw) (a .edit .f .first .0) (length (a .words .now) / WORDS) (a .words .now) (requestOf (a .edit .q)) (pre .2 .small) (entryOf (a .e)) (pre .3) (a .b) (a .i * ROW)
     ∙ ap (afterIn (frameOf (a .edit .f) (a .words .now)) (a .words .now) (requestOf (a .edit .q)) (entryOf (a .e))) z in (
       e,
@@ -32,4 +35,4 @@ returns c =
     )
 
 pub piece-first-spec : {M : Type 1} → statement M
-piece-first-spec = tie.close (tie.spec mul-after-word after-word-requires returns)
+piece-first-spec = tie.close (tie.spec mul-after-word after-word-requires wide-requires returns)
