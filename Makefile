@@ -21,7 +21,7 @@ run: command
 # rt ci waits for the last check of a batch, so a batch is of twice as many as there are cores
 test:
 	@tools/kit
-	@tools/need cc:gcc cargo
+	@tools/need cc:gcc cargo python3 perl
 	@tools/derive --check
 	@tests/order/run
 	@said=$$(mktemp); RT_JOBS=$$((2 * $$(nproc))) rt ci 2>&1 | tee "$$said" || { rm -f "$$said"; exit 1; }; mv "$$said" target/verdict
@@ -45,6 +45,7 @@ board: command
 	@board/trace/test $(library)
 	@board/module/test
 	@if board/trace/test $(unmarked) >target/board/unmarked.log 2>&1; then echo "trace: unmarked stores were not refused" >&2; exit 1; fi
+	@grep -q "the stores are not document 01's" target/board/unmarked.log || { cat target/board/unmarked.log >&2; exit 1; }
 	@echo "trace: unmarked stores are refused: $$(tail -n 1 target/board/unmarked.log | tr -s '[:space:]' ' ')"
 	@board/assembly/test
 	@board/user/test

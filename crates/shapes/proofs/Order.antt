@@ -1,9 +1,9 @@
 -- Where an edit stands: before a part of what is ahead, and after the stores before that part.
 use mathlib.Core.Path.{_≡_, refl, sym, ap, _∙_, subst}
-use mathlib.Core.List.{List, [], _∷_, _++_, append-assoc, append-nil}
+use mathlib.Core.List.{List, [], _∷_, _++_, append-assoc, append-nil, headD, tail}
 use Prim.Native.Nat.{ℕ, suc, _+_, _-_, _<_}
 use native.Mathlib.Omega.{arith}
-use lib.ListN.{length, take, set, length-append}
+use lib.ListN.{length, take, drop, set, length-append, length-drop, take-append-drop}
 use lib.Seq.{take-append-seam}
 use Rattle.model.specs.Demands.{stopped}
 use Rattle.model.specs.Numbers.{joined}
@@ -48,6 +48,20 @@ module _ {m : List ℕ} {l : List Store} (x y z : List Store) (e : l ≡ x ++ (y
             ∙ sym (apply-append (a .made) x (a .edit .found))
             ∙ sym (leaves-made (a .edit) (a .made ++ x) (y ++ (z ++ a .later)) parts);
       }
+
+-- "for each k below the list's length": what limit k leaves has the list's store k ahead
+first-of : (l : List Store) (none : Store) → 0 < length l → l ≡ headD l none ∷ tail l
+unfolding headD
+first-of [] none h = absurd (omega arith)
+first-of (s ∷ ss) none h = refl
+
+pub ahead-each : (e : AcceptedEdit) (k : ℕ) (none : Store) → k < length (listOf e) → Ahead (leaves e k) (headD (drop k (listOf e)) none ∷ [])
+unfolding stopped
+ahead-each e k none h =
+    let l = listOf e in
+    ahead-at (take k l) (headD (drop k l) none ∷ []) (tail (drop k l))
+    (sym (take-append-drop k l) ∙ ap (λ (r : List Store). take k l ++ r) (first-of (drop k l) none (omega (arith, h, length-drop k l))))
+    (ahead-start e) refl
 
 -- the first of two parts; and the second, once the first is made
 pub ahead-first : {m : List ℕ} (x y : List Store) → Ahead m (x ++ y) → Ahead m x
