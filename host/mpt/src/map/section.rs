@@ -150,7 +150,7 @@ fn entries<T: Join>(lines: &[Line<T>], what: impl Fn(&Line<T>) -> String) -> Vec
         match line.count {
             1 => Entry { place, size: line.range.size(), what, permission: None },
             count => {
-                let what = format!("{what} at most, in {} ranges", grouped(count as u64));
+                let what = format!("{what} at most, in {} ranges (see --whole)", grouped(count as u64));
                 Entry { place, size: String::new(), what, permission: None }
             }
         }

@@ -164,7 +164,7 @@ fn legend(ink: &Ink) -> String {
     format!(
         "\na cell is a block of 32 MiB, a row is a GiB. The letter is the strongest permission in it:
   {}
-  small where all of the block has it; X W A where some of it has it and the rest has less
+  small where all of the block has it; X W A where some has it and the rest has another or less
 the mark after it is the form: blank by a 1G type, : by pieces of 2 MiB, * by pages,
   ! a bad entry, reserved bits or a page that is not lent, = Bare
 a lent page is {} root of slot 0, {} L1 page of slot 0, {} free, {} used twice\n",
@@ -230,8 +230,8 @@ mod tests {
         let picture = picture(&lines);
         let text = draw(&picture, false, false);
         assert!(text.lines().count() < 60, "{text}");
-        assert!(text.contains("  0x000000000 to 0x001ffefff  rw at most, in 4,096 ranges"), "{text}");
-        assert!(text.contains("rw: slots 0 1 at most, in 4,096 ranges"), "{text}");
+        assert!(text.contains("  0x000000000 to 0x001ffefff  rw at most, in 4,096 ranges (see --whole)\n"), "{text}");
+        assert!(text.contains("rw: slots 0 1 at most, in 4,096 ranges (see --whole)\n"), "{text}");
         assert!(draw(&picture, false, true).lines().count() > 3 * 4096);
     }
 }

@@ -75,7 +75,7 @@ pub fn legend() -> String {
         (Permission::Rx, false, Form::Whole, "rx: read, execute"),
         (Permission::Rw, false, Form::Whole, "rw: read, write"),
         (Permission::Rwx, false, Form::Whole, "rwx: all"),
-        (Permission::Rw, true, Form::Whole, "striped: the strongest in the block; the rest has less"),
+        (Permission::Rw, true, Form::Whole, "striped: the strongest in the block; the rest has another or less"),
         (Permission::Rw, false, Form::Pieces, "by pieces of 2 MiB"),
         (Permission::Rw, false, Form::Pages { page: 0, reserved: false }, "by pages (L1 page)"),
         (Permission::None, false, Form::Bad, "faults: a bad entry or a page that is not lent"),
