@@ -68,7 +68,21 @@ fn a_table_that_is_not_sound_or_whose_memory_is_open_is_no_success() {
     assert!(status == 3 && pictures.iter().all(|picture| picture.contains("NOT SOUND")));
     let (status, pictures) = drawn("exposed", &format!("{FINE}poke 64 0x200000000000\n"));
     assert_eq!(status, 3);
-    assert!(pictures.iter().all(|picture| picture.contains("OPEN to rw: slot 0")));
+    for picture in pictures {
+        assert!(picture.contains("OPEN to rw: slot 0"), "{picture}");
+        assert!(picture.contains("The table is sound, BUT ITS OWN MEMORY IS OPEN."), "{picture}");
+    }
+}
+
+/// An L1 page's label is no level of the table: in the three pictures it is P and the slot, which the legend tells.
+#[test]
+fn lent_pages_are_labelled_by_use_and_slot() {
+    let (_, [terminal, svg, html]) = drawn("labels", FINE);
+    assert!(terminal.contains("  0x080000  R0 P0 .. ..") && terminal.contains("P0 L1 page of slot 0"), "{terminal}");
+    assert!(svg.contains(">R0</text>") && svg.contains(">L1 page of slot 0</text>"), "{svg}");
+    assert_eq!(svg.matches(">P0</text>").count(), 2, "the page and the legend");
+    assert!(html.contains(">P0</i>") && html.contains("P0 an L1 page of slot 0"), "{html}");
+    assert!([svg, html].iter().all(|picture| !picture.contains(">L0<")));
 }
 
 #[test]

@@ -78,7 +78,7 @@ impl Ink {
         match page {
             Use::Free => self.paint("..", GREY),
             Use::Root(slot) => self.paint(&format!("R{slot}"), 24),
-            Use::L1(slot) => self.paint(&format!("L{slot}"), 130),
+            Use::L1(slot) => self.paint(&format!("P{slot}"), 130),
             Use::Twice => self.paint("!!", RED),
         }
     }
@@ -199,7 +199,7 @@ mod tests {
         let rows: Vec<&str> = text.lines().filter(|line| line.starts_with("0x")).collect();
         assert_eq!(rows[0], format!("0x000000000  x w !!{}", "a ".repeat(29).trim_end()));
         assert_eq!(rows[1], format!("0x040000000  X:W*{}", ".:".repeat(30)));
-        assert!(text.contains("  0x040000  R2 L2 ..\n"));
+        assert!(text.contains("  0x040000  R2 P2 ..\n"));
         assert!(text.contains("NOT SOUND"));
         assert!(!text.contains('\x1b') && draw(&picture, true, false).contains("\x1b["));
         assert_eq!(text.lines().find(|line| line.chars().count() > 100), None);
