@@ -68,7 +68,7 @@ enum {
     MPT_PAGE_WORDS = 512,
     MPT_SLOTS = 8,
     MPT_HIGHEST_SDID = 63,
-    MPT_MOST_STORES = 1536 /* a limit that no edit reaches */
+    MPT_MOST_STORES = 1536 /* a limit that no edit exceeds */
 };
 
 /* Answers. Lowest number first where several fit, except that 8 comes before 7. */

@@ -116,6 +116,33 @@ fn lines_that_are_no_commands_are_all_named_and_nothing_is_drawn() {
 }
 
 #[test]
+fn an_image_in_a_scripts_place_is_quoted_in_part_and_image_is_named() {
+    let image = file("image.bin");
+    fs::write(&image, [&[0x11; 5000][..], b"\n", &[0; 5000]].concat()).unwrap();
+    for command in ["run", "map"] {
+        let output = mpt(&[command, &image]);
+        let said = text(&output.stdout) + &text(&output.stderr);
+        assert_eq!(output.status.code(), Some(2), "{said}");
+        let quoted = format!("line 1: no command `{}..`; the commands are", "\\x11".repeat(20));
+        assert!(said.contains(&quoted) && said.contains("line 2: "), "{said}");
+        assert_eq!(said.contains("`mpt map --image FILE PAW FIRST`"), command == "map", "{said}");
+    }
+}
+
+#[test]
+fn a_frame_that_breaks_its_bounds_is_told_them() {
+    let script = file("bounds.mpt");
+    fs::write(&script, "frame 29 0x80000 0 1\n").unwrap();
+    let output = mpt(&["map", &script]);
+    let errors = text(&output.stderr);
+    assert_eq!((output.status.code(), output.stdout.len()), (Some(2), 0));
+    for part in ["PAW 30 to 34", "2 to 256 whole pages", "first page + pages at most 2^(PAW-12)", " PAW 29", " 1 word "]
+    {
+        assert!(errors.contains(part), "{part}: {errors}");
+    }
+}
+
+#[test]
 fn a_file_that_cannot_be_written_is_named() {
     for option in ["--svg", "--html"] {
         let output = mpt(&["map", &example("cradles.mpt"), option, "/no-such-folder/picture"]);
