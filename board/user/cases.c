@@ -172,8 +172,22 @@ static void other_calls(void)
     memory("other calls");
 }
 
+/* The library's version is a number of the header's, not of document 01. */
+static void version(void)
+{
+    say("version: ");
+    say_hex(mpt_version());
+    if (mpt_version() != MPT_VERSION) {
+        wrong++;
+        say(" WRONG, mpt.h says ");
+        say_hex(MPT_VERSION);
+    }
+    put('\n');
+}
+
 uint64_t bench_cases(void)
 {
+    version();
     cases_a_to_e();
     cases_f_to_h();
     cases_i_to_k();

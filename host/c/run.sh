@@ -11,17 +11,13 @@ folder=$(mktemp -d)
 trap 'rm -rf "$folder"' EXIT
 warnings="-Wall -Wextra -Werror"
 
-# a library that is older than its version call gets one
-version=
-nm "$1" 2>/dev/null | grep -q ' T mpt_version$' || version=$here/version.c
-
-# shellcheck disable=SC2086 # switches, and perhaps no file
-"${CC:-cc}" -std=c11 $warnings -I "$here/../include" "$here/test.c" $version "$1" -o "$folder/test"
+# shellcheck disable=SC2086 # switches
+"${CC:-cc}" -std=c11 $warnings -I "$here/../include" "$here/test.c" "$1" -o "$folder/test"
 "$folder/test"
 
 if command -v "${CXX:-c++}" >/dev/null 2>&1; then
     # shellcheck disable=SC2086
-    "${CXX:-c++}" -x c++ -std=c++11 $warnings -I "$here/../include" "$here/test.c" $version -x none "$1" -o "$folder/test++"
+    "${CXX:-c++}" -x c++ -std=c++11 $warnings -I "$here/../include" "$here/test.c" -x none "$1" -o "$folder/test++"
     "$folder/test++" >/dev/null
 fi
 
@@ -29,7 +25,7 @@ fi
 if command -v pkg-config >/dev/null 2>&1; then
     found() { PKG_CONFIG_PATH=$folder/installed/lib/pkgconfig pkg-config "$@" mpt; }
     # shellcheck disable=SC2046,SC2086
-    "${CC:-cc}" -std=c11 $warnings $(found --cflags) "$here/test.c" $version $(found --libs) -o "$folder/found"
+    "${CC:-cc}" -std=c11 $warnings $(found --cflags) "$here/test.c" $(found --libs) -o "$folder/found"
     "$folder/found" >/dev/null
     echo "C interface: installed, and found by pkg-config as mpt $(found --modversion)"
 fi

@@ -49,7 +49,10 @@ static void open_bench(void)
     expect("open: slot 0", slots[0], UINT64_C(0x1140000000080000));
     answer = mpt_open(PAW, FIRST, words, COUNT, slots, 0, mpt_to_sdid(6));
     expect("open again", mpt_refused(answer), MPT_BAD_SLOT);
-    expect("open again: register", mpt_register(answer), 0);
+    uint64_t none = mpt_register(answer);
+    expect("open again: register", none, UINT64_C(0xF000000000000000));
+    looked("open again: load under its register", mpt_lookup(PAW, FIRST, words, COUNT, none, MPT_SUPERVISOR, MPT_LOAD, mpt_to_address(0)),
+           0, 0, MPT_BAD_REGISTER);
     mpt_write_opened(slots, 0, answer);
     expect("open again: slot 0", slots[0], UINT64_C(0x1140000000080000));
     looked("A: load on the new domain", look(MPT_LOAD, 0x40000000), 0, 5, 0);

@@ -44,6 +44,9 @@
 #define MPT_VERSION_MINOR 0
 #define MPT_VERSION ((UINT64_C(1) << 16) * MPT_VERSION_MAJOR + MPT_VERSION_MINOR)
 
+/* MODE 15, which is none: the register of no domain, as mpt_register answers it of a refused open. */
+#define MPT_NO_REGISTER (UINT64_C(15) << 60)
+
 /* An answer may not be left lying. */
 #if defined(__GNUC__) || defined(__clang__)
 #define MPT_MUST_USE __attribute__((warn_unused_result))
@@ -65,7 +68,7 @@ enum {
     MPT_PAGE_WORDS = 512,
     MPT_SLOTS = 8,
     MPT_HIGHEST_SDID = 63,
-    MPT_MOST_STORES = 1536 /* a limit that no edit reaches */
+    MPT_MOST_STORES = 1536 /* a limit that no edit exceeds */
 };
 
 /* Answers. Lowest number first where several fit, except that 8 comes before 7. */
@@ -125,7 +128,8 @@ MPT_MUST_USE uint64_t mpt_version(void);
 
 /* May an access of this kind, at this privilege, reach this one address under this register?
  *
- *   mmpt       the register's value; any value
+ *   mmpt       the register's value; any value. NOT an empty slot's: 0 is Bare, which allows
+ *              everything, so ask first whether the slot is 0
  *   privilege  MPT_USER, MPT_SUPERVISOR or MPT_MACHINE
  *   kind       MPT_FETCH to MPT_UPDATE_STORE
  *   address    the physical address; any value

@@ -86,10 +86,11 @@ static inline uint64_t mpt_edit_refused(mpt_edited answer)
     return answer.word < 256 ? answer.word : 0;
 }
 
-/* The register that an open made; 0 if it was refused. */
+/* The register that an open made. If it was refused, MPT_NO_REGISTER, which every lookup refuses
+ * (MPT_BAD_REGISTER): 0 would be Bare, which allows everything. */
 static inline uint64_t mpt_register(mpt_opened answer)
 {
-    return answer.word < 256 ? 0 : answer.word;
+    return answer.word < 256 ? MPT_NO_REGISTER : answer.word;
 }
 
 /* Of an edit: bits 57:18, how many stores were made. */

@@ -24,17 +24,9 @@ fn link(library: &Path) {
     if let Err(error) = fs::write(folder.join("libmpt_proved.a"), &bytes) {
         fail(&format!("{}: {error}", folder.display()));
     }
-    if names(&bytes, b"\0mpt_version\0") {
-        println!("cargo:rustc-cfg=mpt_version");
-    }
     println!("cargo:rerun-if-changed={name}");
     println!("cargo:rustc-link-search=native={}", folder.display());
     println!("cargo:rustc-link-lib=static=mpt_proved");
-}
-
-/// Whether a symbol's name stands in a library: a library may be older than its version call.
-fn names(library: &[u8], symbol: &[u8]) -> bool {
-    library.windows(symbol.len()).any(|bytes| bytes == symbol)
 }
 
 /// Cargo shows what a build script that failed has said.

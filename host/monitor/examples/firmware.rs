@@ -14,8 +14,10 @@ struct Kept {
     words: Vec<u64>,
     slots: [u64; SLOTS],
     record: Record,
-    /// The jobs that are done.
+    /// The jobs that are done or refused.
     done: usize,
+    /// The last refusal, with its job's number.
+    refused: Option<(usize, Refusal)>,
 }
 
 /// The edit that is under way. It stands here before the call is made: after a reset nothing else tells
@@ -35,6 +37,16 @@ impl Record {
 
     fn end(&mut self) {
         self.write_pending(0);
+    }
+
+    /// Makes the edit that stands here, then its fence. Only a reset leaves the record standing: an edit that is
+    /// refused has made no store, and would be refused again at every start.
+    fn make(&mut self, table: &mut Lent, watchdog: &mut Watchdog, fence: impl Fn(&Lent, Edited)) -> Result<(), Stop> {
+        let made = watchdog.edit(table, self.edit).map(|edited| fence(table, edited));
+        if !matches!(made, Err(Stop::Reset)) {
+            self.end();
+        }
+        made
     }
 
     /// One store, in order with those before and after it.
@@ -84,7 +96,8 @@ impl Watchdog {
     }
 }
 
-/// One start of the board: up to the end of all jobs, or to the next reset.
+/// One start of the board: up to the end of all jobs, or to the next reset. A job that is refused is left out; a table
+/// that is not sound ends the start.
 fn start(kept: &mut Kept, jobs: &[Job], watchdog: &mut Watchdog) -> Result<(), Stop> {
     let monitor = Monitor::proved();
     // a reset may have come between a close and its fence
@@ -92,14 +105,28 @@ fn start(kept: &mut Kept, jobs: &[Job], watchdog: &mut Watchdog) -> Result<(), S
     let table = &mut Lent::new(FRAME, &mut kept.words, &mut kept.slots);
     monitor.sound(table)?;
     if kept.record.pending != 0 {
-        let edited = watchdog.edit(table, kept.record.edit)?;
-        let sdid = table.register(kept.record.edit.slot).map(Register::sdid);
+        let slot = kept.record.edit.slot;
         // after a cut the whole domain is fenced, whatever the last call asks
-        println!("  finished the edit that was cut: {} stores more; fence domain {sdid:?}", edited.stores);
-        kept.record.end();
+        let made = kept.record.make(table, watchdog, |table, edited| {
+            let sdid = table.register(slot).map(Register::sdid);
+            println!("  finished the edit that was cut: {} stores more; fence domain {sdid:?}", edited.stores);
+        });
+        match made {
+            Ok(()) => {}
+            // the reset came before the first call's refusal was noted; its job comes again below
+            Err(Stop::Refused(refusal)) => println!("  the edit under way is refused: {refusal}"),
+            Err(Stop::Reset) => return Err(Stop::Reset),
+        }
     }
     while let Some(job) = jobs.get(kept.done) {
-        one(job, table, &mut kept.record, watchdog)?;
+        match one(job, table, &mut kept.record, watchdog) {
+            Ok(()) => {}
+            Err(Stop::Refused(refusal)) => {
+                println!("  refused: {refusal}");
+                kept.refused = Some((kept.done, refusal));
+            }
+            Err(Stop::Reset) => return Err(Stop::Reset),
+        }
         kept.done += 1;
     }
     Ok(())
@@ -115,9 +142,8 @@ fn one(job: &Job, table: &mut Lent, record: &mut Record, watchdog: &mut Watchdog
         },
         Job::Edit(edit) => {
             record.begin(edit);
-            let edited = watchdog.edit(table, edit)?;
-            println!("  edited: {} stores, {:?}", edited.stores, edited.fence);
-            record.end();
+            let fence = |_: &Lent, edited: Edited| println!("  edited: {} stores, {:?}", edited.stores, edited.fence);
+            record.make(table, watchdog, fence)?;
         }
         Job::Close(slot) => match table.register(slot) {
             Some(Register::EMPTY) => println!("  {slot:?} is closed already"),
@@ -127,11 +153,15 @@ fn one(job: &Job, table: &mut Lent, record: &mut Record, watchdog: &mut Watchdog
     Ok(())
 }
 
-/// Starts until all jobs are done; the watchdog bites after so many stores of each start, and then no more.
-fn run(jobs: &[Job], bites: &[u64]) -> Result<Kept, Refusal> {
+/// What the first start finds.
+fn fresh() -> Kept {
     let edit = Edit { slot: Slot(0), start: Address(0), length: 0, permission: Permission::None, limit: 0 };
     let record = Record { pending: 0, edit };
-    let mut kept = Kept { words: vec![0; 16 * PAGE_WORDS], slots: [0; SLOTS], record, done: 0 };
+    Kept { words: vec![0; 16 * PAGE_WORDS], slots: [0; SLOTS], record, done: 0, refused: None }
+}
+
+/// Starts until all jobs are done; the watchdog bites after so many stores of each start, and then no more.
+fn run(mut kept: Kept, jobs: &[Job], bites: &[u64]) -> Result<Kept, Refusal> {
     for left in bites.iter().copied().chain(std::iter::repeat(u64::MAX)) {
         println!("start");
         match start(&mut kept, jobs, &mut Watchdog { left }) {
@@ -159,7 +189,11 @@ fn jobs() -> [Job; 6] {
 }
 
 fn main() -> ExitCode {
-    match run(&jobs(), &[300, 513, 600, 10]) {
+    match run(fresh(), &jobs(), &[300, 513, 600, 10]) {
+        Ok(Kept { refused: Some((job, refusal)), .. }) => {
+            eprintln!("job {job} is refused: {refusal}");
+            ExitCode::FAILURE
+        }
         Ok(kept) => {
             println!("all jobs are done; slot 0 holds {}", Register(kept.slots[0]));
             ExitCode::SUCCESS
@@ -188,13 +222,46 @@ mod tests {
 
     #[test]
     fn wherever_the_watchdog_bites_the_end_is_that_of_no_reset() {
-        let uncut = reads(run(&jobs(), &[]).unwrap());
+        let uncut = reads(run(fresh(), &jobs(), &[]).unwrap());
         let allowed = uncut.iter().filter(|verdict| **verdict == Ok(Verdict::Allowed)).count();
         assert_eq!(allowed, 6, "pages 0x40001 to 0x40003 and 0x41ffe to 0x42000");
         for bites in (0..1100).step_by(37).chain([511, 512, 513, 1024, 1025, 1026]) {
-            let kept = run(&jobs(), &[bites, bites / 2, bites + 1]).unwrap();
-            assert_eq!((kept.done, kept.record.pending), (6, 0), "{bites}");
+            let kept = run(fresh(), &jobs(), &[bites, bites / 2, bites + 1]).unwrap();
+            assert_eq!((kept.done, kept.record.pending, kept.refused), (6, 0, None), "{bites}");
             assert_eq!(reads(kept), uncut, "{bites}");
         }
+    }
+
+    /// A range that meets the lent pages.
+    const REFUSED: Edit = Edit {
+        slot: Slot(0),
+        start: Address(FRAME.first.0 << 12),
+        length: 0x1000,
+        permission: Permission::Rw,
+        limit: MOST_STORES,
+    };
+
+    #[test]
+    fn a_refused_job_is_left_out_and_the_others_are_done() {
+        let uncut = reads(run(fresh(), &jobs(), &[]).unwrap());
+        for (place, bites) in [(1, 0), (2, 300), (2, 544), (2, 600), (4, 600), (6, 300), (6, u64::MAX)] {
+            let mut with: Vec<Job> = jobs().into();
+            with.insert(place, Job::Edit(REFUSED));
+            let kept = run(fresh(), &with, &[bites]).unwrap();
+            assert_eq!((kept.done, kept.record.pending), (7, 0), "{place} {bites}");
+            assert_eq!(kept.refused, Some((place, Refusal::MeetsLent)), "{place} {bites}");
+            assert_eq!(reads(kept), uncut, "{place} {bites}");
+        }
+    }
+
+    #[test]
+    fn a_reset_between_a_refusal_and_the_end_of_its_record_stops_no_start() {
+        let mut kept = run(fresh(), &jobs()[..2], &[]).unwrap();
+        kept.record.begin(REFUSED);
+        let kept = run(kept, &jobs()[..2], &[]).unwrap();
+        assert_eq!((kept.done, kept.record.pending, kept.refused), (2, 0, None));
+        let kept = run(kept, &jobs(), &[]).unwrap();
+        assert_eq!((kept.done, kept.record.pending, kept.refused), (6, 0, None));
+        assert_eq!(reads(kept), reads(run(fresh(), &jobs(), &[]).unwrap()));
     }
 }

@@ -168,7 +168,9 @@ impl Refusal {
 impl fmt::Display for Refusal {
     fn fmt(&self, f: &mut fmt::Formatter) -> fmt::Result {
         f.write_str(match self {
-            Refusal::BadFrame => "the frame breaks its bounds",
+            Refusal::BadFrame => {
+                "the frame breaks its bounds: PAW 30 to 34, 2 to 256 whole pages, first page + pages at most 2^(PAW-12)"
+            }
             Refusal::BadRegister => "the register's MODE is above 1, or it is Bare with PPN or SDID not zero",
             Refusal::NotSound => "the table is not sound",
             Refusal::BadSlot => "the slot is above 7, or empty, or in use already",

@@ -38,6 +38,7 @@ impl<I: Interface> Monitor<I> {
     }
 
     /// May an access of this kind reach the address under this register?
+    /// An empty slot holds no register to ask about: zero is Bare, which allows everything ([`Register::EMPTY`]).
     #[inline]
     pub fn lookup(
         &self,

@@ -1,6 +1,4 @@
 //! The proved library, called by C's rules.
-// the build script says `mpt_version`; that it does can't be told to every compiler from 1.63 on
-#![allow(unknown_lints, unexpected_cfgs)]
 
 use crate::answer::Answer;
 use crate::call::{Reading, View, ViewMut, Writing};
@@ -50,7 +48,6 @@ mod c {
             limit: u64,
         ) -> u64;
         pub fn mpt_sound(paw: u64, first: u64, words: *const u64, count: usize, slots: *const [u64; 8]) -> u64;
-        #[cfg(mpt_version)]
         pub fn mpt_version() -> u64;
     }
 }
@@ -63,13 +60,10 @@ pub struct Proved;
 pub const VERSION: u64 = 1 << 16;
 
 impl Proved {
-    /// The library's version; nothing for one that is older than its version call.
-    pub fn version(self) -> Option<u64> {
-        #[cfg(mpt_version)]
+    /// The library's version.
+    pub fn version(self) -> u64 {
         // SAFETY: a call without arguments that answers a constant.
-        return Some(unsafe { c::mpt_version() });
-        #[cfg(not(mpt_version))]
-        None
+        unsafe { c::mpt_version() }
     }
 }
 

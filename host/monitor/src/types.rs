@@ -18,7 +18,8 @@ pub struct Sdid(pub u64);
 #[derive(Clone, Copy, Debug, PartialEq, Eq, PartialOrd, Ord, Hash)]
 pub struct Slot(pub u64);
 
-/// An mmpt value: PPN 43:0, WPRI 53:44, SDID 59:54, MODE 63:60.
+/// An mmpt value: PPN 43:0, WPRI 53:44, SDID 59:54, MODE 63:60. Zero is Bare, which allows every access, and is also
+/// what an empty slot holds ([`Register::EMPTY`]).
 ///
 /// ```
 /// # use mpt_monitor::*;
@@ -50,7 +51,8 @@ impl Address {
 }
 
 impl Register {
-    /// What an empty slot holds.
+    /// What an empty slot holds. **As a register it is Bare, which allows every access**: a slot is asked whether it
+    /// is empty before a lookup is made under what it holds.
     pub const EMPTY: Register = Register(0);
 
     /// A slot that holds zero is empty.

@@ -122,6 +122,9 @@ impl Display for Error {
             Error::NoFrame => f.write_str("there is no memory yet; begin with `frame PAW FIRST PAGES`"),
             Error::NoCount => f.write_str("COUNT 0 asks for nothing; at least 1"),
             Error::Outside { count: 0, .. } => f.write_str("the memory has no words"),
+            Error::Outside { index, many: 1, count } => {
+                write!(f, "word {index} is not there; the words are 0 to {}", count - 1)
+            }
             Error::Outside { index, many, count } => {
                 write!(f, "{many} words from {index} are not all there; the words are 0 to {}", count - 1)
             }
@@ -146,7 +149,10 @@ impl Display for Difference {
             }
             Difference::Slot { index, is } => words(f, "slot", *index, *is),
             Difference::Word { index, is } => words(f, "word", *index, *is),
-            Difference::Length([one, other]) => write!(f, "{}: {} words\n{}: {} words", one.0, one.1, other.0, other.1),
+            Difference::Length([one, other]) => {
+                let words = |count| if count == 1 { "1 word".to_string() } else { format!("{count} words") };
+                write!(f, "{}: {}\n{}: {}", one.0, words(one.1), other.0, words(other.1))
+            }
         }
     }
 }

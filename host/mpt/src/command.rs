@@ -3,6 +3,7 @@
 pub use crate::fields::number;
 
 use crate::fields::Fields;
+use crate::output::quoted;
 use mpt_monitor::{Address, Call, Edit, Kind, PageNumber, Permission, Privilege, Register, Sdid, Slot};
 use std::fmt;
 
@@ -76,7 +77,7 @@ pub fn parse(line: &str) -> Result<Option<Command>, String> {
     };
     let (_, form) = FORMS.iter().find(|(known, _)| *known == name).ok_or_else(|| {
         let known: Vec<&str> = FORMS.iter().map(|(known, _)| *known).collect();
-        format!("no command `{name}`; the commands are {}", known.join(", "))
+        format!("no command {}; the commands are {}", quoted(name), known.join(", "))
     })?;
     let mut fields = Fields::after_name(form, line);
     let command = match name {

@@ -1,5 +1,6 @@
 //! The words of a command line, read as numbers and names.
 
+use crate::output::quoted;
 use std::str::SplitWhitespace;
 
 /// The words of a line after its first.
@@ -22,7 +23,7 @@ impl<'a> Fields<'a> {
 
     pub fn number(&mut self, name: &str) -> Result<u64, String> {
         let text = self.next(name)?;
-        number(text).map_err(|why| format!("{name} `{text}` {why}"))
+        number(text).map_err(|why| format!("{name} {} {why}", quoted(text)))
     }
 
     pub fn index(&mut self, name: &str) -> Result<usize, String> {
@@ -49,14 +50,14 @@ impl<'a> Fields<'a> {
         let text = self.next(name)?;
         known.iter().find(|(word, _)| *word == text).map(|&(_, value)| value).ok_or_else(|| {
             let words: Vec<&str> = known.iter().map(|(word, _)| *word).collect();
-            format!("{name} `{text}` is not known; it is one of {}", words.join(", "))
+            format!("{name} {} is not known; it is one of {}", quoted(text), words.join(", "))
         })
     }
 
     pub fn end(&mut self) -> Result<(), String> {
         match self.rest.next() {
             None => Ok(()),
-            Some(text) => Err(format!("`{text}` is too much; the form is `{}`", self.form)),
+            Some(text) => Err(format!("{} is too much; the form is `{}`", quoted(text), self.form)),
         }
     }
 }

@@ -57,6 +57,19 @@ pub fn shown(text: &str) -> String {
     shown
 }
 
+/// The most characters of a text that an error quotes: a line of a file that is no text may be very long.
+const QUOTED: usize = 80;
+
+/// Text in an error, as `shown` and between quotes; the rest of a long one is left out.
+pub fn quoted(text: &str) -> String {
+    let start: String = text.chars().take(QUOTED + 1).collect();
+    let shown = shown(&start);
+    match shown.char_indices().nth(QUOTED) {
+        Some((end, _)) => format!("`{}..`", &shown[..end]),
+        None => format!("`{shown}`"),
+    }
+}
+
 fn escaped(bytes: &[u8]) -> String {
     bytes.iter().map(|byte| format!("\\x{byte:02x}")).collect()
 }
@@ -91,6 +104,13 @@ pub fn is_terminal(file: c_int) -> bool {
 #[cfg(test)]
 mod tests {
     use super::*;
+
+    #[test]
+    fn a_long_text_is_quoted_in_part() {
+        assert_eq!((quoted("opne"), quoted(&"é".repeat(80))), ("`opne`".to_string(), format!("`{}`", "é".repeat(80))));
+        assert_eq!(quoted(&"a".repeat(81)), format!("`{}..`", "a".repeat(80)));
+        assert_eq!(quoted(&"\0".repeat(1_000_000)), format!("`{}..`", "\\x00".repeat(20)));
+    }
 
     #[test]
     fn control_bytes_and_bytes_that_are_no_text_are_shown() {

@@ -152,9 +152,10 @@ fn command(number: usize, bytes: &[u8]) -> Result<Option<Command>, String> {
     match str::from_utf8(bytes) {
         Ok(text) => parse(text),
         Err(_) => match parse(&output::decoded(bytes))? {
-            Some(Command::Save(file) | Command::Load(file)) => {
-                Err(format!("`{file}` has bytes that are no UTF-8; the name of a file must be UTF-8 here"))
-            }
+            Some(Command::Save(file) | Command::Load(file)) => Err(format!(
+                "{} has bytes that are no UTF-8; the name of a file must be UTF-8 here",
+                output::quoted(&file)
+            )),
             other => Ok(other),
         },
     }

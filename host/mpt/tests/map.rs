@@ -68,7 +68,21 @@ fn a_table_that_is_not_sound_or_whose_memory_is_open_is_no_success() {
     assert!(status == 3 && pictures.iter().all(|picture| picture.contains("NOT SOUND")));
     let (status, pictures) = drawn("exposed", &format!("{FINE}poke 64 0x200000000000\n"));
     assert_eq!(status, 3);
-    assert!(pictures.iter().all(|picture| picture.contains("OPEN to rw: slot 0")));
+    for picture in pictures {
+        assert!(picture.contains("OPEN to rw: slot 0"), "{picture}");
+        assert!(picture.contains("The table is sound, BUT ITS OWN MEMORY IS OPEN."), "{picture}");
+    }
+}
+
+/// An L1 page's label is no level of the table: in the three pictures it is P and the slot, which the legend tells.
+#[test]
+fn lent_pages_are_labelled_by_use_and_slot() {
+    let (_, [terminal, svg, html]) = drawn("labels", FINE);
+    assert!(terminal.contains("  0x080000  R0 P0 .. ..") && terminal.contains("P0 L1 page of slot 0"), "{terminal}");
+    assert!(svg.contains(">R0</text>") && svg.contains(">L1 page of slot 0</text>"), "{svg}");
+    assert_eq!(svg.matches(">P0</text>").count(), 2, "the page and the legend");
+    assert!(html.contains(">P0</i>") && html.contains("P0 an L1 page of slot 0"), "{html}");
+    assert!([svg, html].iter().all(|picture| !picture.contains(">L0<")));
 }
 
 #[test]
@@ -99,6 +113,33 @@ fn lines_that_are_no_commands_are_all_named_and_nothing_is_drawn() {
     assert!(errors.contains(&format!("{script}: line 2: no command `opne`")), "{errors}");
     assert!(errors.contains(&format!("{script}: line 4: COUNT 0")), "{errors}");
     assert!(errors.contains("2 lines could not be obeyed"), "{errors}");
+}
+
+#[test]
+fn an_image_in_a_scripts_place_is_quoted_in_part_and_image_is_named() {
+    let image = file("image.bin");
+    fs::write(&image, [&[0x11; 5000][..], b"\n", &[0; 5000]].concat()).unwrap();
+    for command in ["run", "map"] {
+        let output = mpt(&[command, &image]);
+        let said = text(&output.stdout) + &text(&output.stderr);
+        assert_eq!(output.status.code(), Some(2), "{said}");
+        let quoted = format!("line 1: no command `{}..`; the commands are", "\\x11".repeat(20));
+        assert!(said.contains(&quoted) && said.contains("line 2: "), "{said}");
+        assert_eq!(said.contains("`mpt map --image FILE PAW FIRST`"), command == "map", "{said}");
+    }
+}
+
+#[test]
+fn a_frame_that_breaks_its_bounds_is_told_them() {
+    let script = file("bounds.mpt");
+    fs::write(&script, "frame 29 0x80000 0 1\n").unwrap();
+    let output = mpt(&["map", &script]);
+    let errors = text(&output.stderr);
+    assert_eq!((output.status.code(), output.stdout.len()), (Some(2), 0));
+    for part in ["PAW 30 to 34", "2 to 256 whole pages", "first page + pages at most 2^(PAW-12)", " PAW 29", " 1 word "]
+    {
+        assert!(errors.contains(part), "{part}: {errors}");
+    }
 }
 
 #[test]

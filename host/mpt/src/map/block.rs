@@ -1,7 +1,6 @@
 //! One block of a domain: its L2 entry and what is open in it.
 
 use super::access::{Lookups, BLOCK_BYTES, BLOCK_PAGES};
-use super::fold::Join;
 use super::range::Range;
 use mpt_monitor::Permission;
 use second::L2;
@@ -38,6 +37,7 @@ pub enum Form {
 /// The permissions of some pages, in short.
 #[derive(Clone, Copy, Debug, PartialEq, Eq)]
 pub struct Shade {
+    /// The last in the order none, rx, rw, rwx that a page has.
     pub strongest: Permission,
     /// Not all of the pages have it.
     pub mixed: bool,
@@ -99,6 +99,26 @@ pub fn block(lookups: Lookups, number: usize, form: Form, entry: Option<u64>) ->
 fn shade(ranges: &[Range<Permission>], start: u64, end: u64) -> Shade {
     let first = ranges.partition_point(|range| range.end <= start);
     let within = || ranges[first..].iter().take_while(|range| range.start < end);
-    let strongest = within().fold(Permission::None, |strongest, range| strongest.join(range.what));
+    // one that a page has: where some have rx and others rw it is rw, and not rwx, which none has
+    let strongest = within().map(|range| range.what).max_by_key(|what| *what as usize).unwrap_or(Permission::None);
     Shade { strongest, mixed: within().any(|range| range.what != strongest) }
+}
+
+#[cfg(test)]
+mod tests {
+    use super::*;
+    use Permission::{None as Closed, Rw, Rwx, Rx};
+
+    #[test]
+    fn a_shade_is_a_permission_that_a_page_has() {
+        let shade = |parts: &[Permission]| {
+            let range = |(nth, what)| Range { start: nth, end: nth + 1, what };
+            let ranges: Vec<_> = (0..).zip(parts.iter().copied()).map(range).collect();
+            super::shade(&ranges, 0, parts.len() as u64)
+        };
+        let mixed = |strongest| Shade { strongest, mixed: true };
+        assert_eq!((shade(&[Rx, Rw]), shade(&[Rw, Rx, Closed])), (mixed(Rw), mixed(Rw)));
+        assert_eq!((shade(&[Closed, Rx]), shade(&[Rwx, Rw])), (mixed(Rx), mixed(Rwx)));
+        assert_eq!(shade(&[Rx, Rx]), Shade { strongest: Rx, mixed: false });
+    }
 }

@@ -8,8 +8,8 @@ use mpt_monitor::Permission;
 /// So many ranges of one block are named one by one; more become one line.
 const FEW: usize = 4;
 
-/// A line of a list: a range, or many small ones of one block from the first to the last, with the
-/// strongest of what holds there.
+/// A line of a list: a range, or many small ones of one block from the first to the last, with every
+/// right that one of them has: no page has more, and perhaps none has all.
 #[derive(Clone, Copy, Debug, PartialEq, Eq)]
 pub struct Line<T> {
     pub range: Range<T>,
@@ -22,18 +22,15 @@ pub struct List<T> {
     pub more: usize,
 }
 
-/// What holds of ranges can be put together: the strongest.
+/// What holds of ranges can be put together: every right that one of them has.
 pub trait Join: Copy {
     fn join(self, other: Self) -> Self;
 }
 
 impl Join for Permission {
     fn join(self, other: Permission) -> Permission {
-        if other as usize > self as usize {
-            other
-        } else {
-            self
-        }
+        // bit 0 to execute, bit 1 to write; both come with reading
+        Permission::ALL[self as usize | other as usize]
     }
 }
 
@@ -82,7 +79,7 @@ fn folded<T: Join>(ranges: &[Range<T>]) -> Vec<Line<T>> {
 #[cfg(test)]
 mod tests {
     use super::*;
-    use Permission::{Rw, Rx};
+    use Permission::{None as Closed, Rw, Rwx, Rx};
 
     /// Every other page from `start`.
     fn pages(start: u64, count: u64) -> impl Iterator<Item = Range<Permission>> {
@@ -93,13 +90,22 @@ mod tests {
     }
 
     #[test]
+    fn rights_are_put_together() {
+        for each in Permission::ALL {
+            assert_eq!((each.join(each), each.join(Closed), Closed.join(each)), (each, each, each));
+            assert_eq!((each.join(Rwx), Rwx.join(each)), (Rwx, Rwx));
+        }
+        assert_eq!((Rx.join(Rw), Rw.join(Rx)), (Rwx, Rwx));
+    }
+
+    #[test]
     fn many_ranges_of_a_block_are_one_line_and_the_rest_is_counted() {
         let wide = Range { start: 0x1800_0000, end: 0x2800_0000, what: Rx };
         let ranges: Vec<_> = pages(0, 2000).chain(pages(0x1000_0000, 4)).chain([wide]).collect();
         let all = list(&ranges, None);
         assert_eq!((all.lines.len(), all.more), (2005, 0));
         let short = list(&ranges, Some(4));
-        let many = Line { range: Range { start: 0, end: 0xF9_F000, what: Rw }, count: 2000 };
+        let many = Line { range: Range { start: 0, end: 0xF9_F000, what: Rwx }, count: 2000 };
         assert_eq!(short.lines[0], many);
         assert_eq!(short.lines[1..].iter().map(|line| line.count).collect::<Vec<_>>(), [1, 1, 1]);
         assert_eq!(short.more, 2);

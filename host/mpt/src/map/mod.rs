@@ -113,6 +113,10 @@ fn scripted(programs: &[Program], file: Option<OsString>) -> Result<(Table, Vec<
         }
     }
     match sides.table() {
+        _ if errors > 0 && errors == lines.len() => Err(format!(
+            "no line of {name} could be obeyed; a table that `save` wrote is drawn by `mpt map --image FILE PAW FIRST`"
+        )
+        .into()),
         _ if errors > 0 => Err(format!("no picture, since {} could not be obeyed", number_of(errors, "line")).into()),
         None => Err("the commands make no frame; begin with `frame PAW FIRST PAGES`".to_string().into()),
         Some(table) => Ok((table.clone(), undone(&lines))),

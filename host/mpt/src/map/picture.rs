@@ -3,6 +3,7 @@
 use super::access::{Lookups, BLOCK_BYTES, PAGE_BYTES};
 use super::block::{block, Block, Form};
 use super::range::{push, Range};
+use super::section::number_of;
 use super::shared::{holders, Holders};
 use super::undone::Undone;
 use crate::programs::Program;
@@ -64,10 +65,10 @@ impl Picture {
         let frame = second::Frame { paw: table.frame().paw, first: table.frame().first.0 };
         let sound = program.monitor().sound(table);
         if sound == Err(Refusal::BadFrame) || !frame.within_bounds(table.words()) {
-            let words = table.words().len();
-            let (paw, first) = (frame.paw, frame.first);
+            let (paw, first, words) = (frame.paw, frame.first, number_of(table.words().len(), "word"));
+            let why = Refusal::BadFrame;
             return Err(format!(
-                "the frame breaks its bounds (PAW {paw}, first page {first:#x}, {words} words), so nothing can be read"
+                "{why}; with PAW {paw}, first page {first:#x} and {words} ({PAGE_WORDS} to a page) nothing can be read"
             ));
         }
         let open = table.slots().iter().enumerate().filter(|(_, &word)| word != 0);

@@ -50,10 +50,11 @@ pub fn summary(picture: &Picture) -> String {
 
 /// What is to be said of the whole, in one line.
 pub fn verdict(picture: &Picture) -> String {
-    let table = if picture.sound {
-        "The table is sound"
-    } else {
-        "The table is NOT SOUND: open, close and edit are refused (3)"
+    let table = match (picture.sound, picture.exposed.is_empty()) {
+        (true, true) => "The table is sound",
+        (true, false) => "The table is sound, BUT ITS OWN MEMORY IS OPEN",
+        (false, true) => "The table is NOT SOUND: open, close and edit are refused (3)",
+        (false, false) => "The table is NOT SOUND: open, close and edit are refused (3), AND ITS OWN MEMORY IS OPEN",
     };
     match picture.undone.len() {
         0 => format!("{table}."),
@@ -150,7 +151,7 @@ fn entries<T: Join>(lines: &[Line<T>], what: impl Fn(&Line<T>) -> String) -> Vec
         match line.count {
             1 => Entry { place, size: line.range.size(), what, permission: None },
             count => {
-                let what = format!("{what} at most, in {} ranges", grouped(count as u64));
+                let what = format!("{what} at most, in {} ranges (see --whole)", grouped(count as u64));
                 Entry { place, size: String::new(), what, permission: None }
             }
         }
@@ -205,6 +206,10 @@ mod tests {
         let found = sections(&picture(&commands), Some(9));
         let open = "0x080000000 to 0x08000ffff|64 KiB|OPEN to rw: slot 0".to_string();
         assert_eq!((lines(&found[2]), found[2].alarm), (vec![open], true));
+        let mut picture = picture(&commands);
+        assert_eq!(verdict(&picture), "The table is sound, BUT ITS OWN MEMORY IS OPEN.");
+        picture.sound = false;
+        assert!(verdict(&picture).ends_with("are refused (3), AND ITS OWN MEMORY IS OPEN."));
     }
 
     #[test]
@@ -217,6 +222,6 @@ mod tests {
         assert_eq!(verdict(&picture), "The table is sound. BUT 1 COMMAND WAS REFUSED OR CUT.");
         assert_eq!(lines(&sections(&picture, Some(9))[0]), ["line 7||`close 5`: why"]);
         picture.sound = false;
-        assert!(verdict(&picture).starts_with("The table is NOT SOUND"));
+        assert!(verdict(&picture).starts_with("The table is NOT SOUND: open, close and edit are refused (3). BUT 1"));
     }
 }

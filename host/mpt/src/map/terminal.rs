@@ -78,7 +78,7 @@ impl Ink {
         match page {
             Use::Free => self.paint("..", GREY),
             Use::Root(slot) => self.paint(&format!("R{slot}"), 24),
-            Use::L1(slot) => self.paint(&format!("L{slot}"), 130),
+            Use::L1(slot) => self.paint(&format!("P{slot}"), 130),
             Use::Twice => self.paint("!!", RED),
         }
     }
@@ -164,7 +164,7 @@ fn legend(ink: &Ink) -> String {
     format!(
         "\na cell is a block of 32 MiB, a row is a GiB. The letter is the strongest permission in it:
   {}
-  small where all of the block has it; X W A where some of it has it and the rest has less
+  small where all of the block has it; X W A where some has it and the rest has another or less
 the mark after it is the form: blank by a 1G type, : by pieces of 2 MiB, * by pages,
   ! a bad entry, reserved bits or a page that is not lent, = Bare
 a lent page is {} root of slot 0, {} L1 page of slot 0, {} free, {} used twice\n",
@@ -199,7 +199,7 @@ mod tests {
         let rows: Vec<&str> = text.lines().filter(|line| line.starts_with("0x")).collect();
         assert_eq!(rows[0], format!("0x000000000  x w !!{}", "a ".repeat(29).trim_end()));
         assert_eq!(rows[1], format!("0x040000000  X:W*{}", ".:".repeat(30)));
-        assert!(text.contains("  0x040000  R2 L2 ..\n"));
+        assert!(text.contains("  0x040000  R2 P2 ..\n"));
         assert!(text.contains("NOT SOUND"));
         assert!(!text.contains('\x1b') && draw(&picture, true, false).contains("\x1b["));
         assert_eq!(text.lines().find(|line| line.chars().count() > 100), None);
@@ -230,8 +230,8 @@ mod tests {
         let picture = picture(&lines);
         let text = draw(&picture, false, false);
         assert!(text.lines().count() < 60, "{text}");
-        assert!(text.contains("  0x000000000 to 0x001ffefff  rw at most, in 4,096 ranges"), "{text}");
-        assert!(text.contains("rw: slots 0 1 at most, in 4,096 ranges"), "{text}");
+        assert!(text.contains("  0x000000000 to 0x001ffefff  rw at most, in 4,096 ranges (see --whole)\n"), "{text}");
+        assert!(text.contains("rw: slots 0 1 at most, in 4,096 ranges (see --whole)\n"), "{text}");
         assert!(draw(&picture, false, true).lines().count() > 3 * 4096);
     }
 }

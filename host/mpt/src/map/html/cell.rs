@@ -58,7 +58,7 @@ pub fn page(picture: &Picture, nth: usize) -> String {
     let (class, sign) = match page {
         Use::Free => ("free", String::new()),
         Use::Root(slot) => ("root", format!("R{slot}")),
-        Use::L1(slot) => ("l1", format!("L{slot}")),
+        Use::L1(slot) => ("l1", format!("P{slot}")),
         Use::Twice => ("twice", "!!".to_string()),
     };
     let (start, end) = (number * PAGE_BYTES, (number + 1) * PAGE_BYTES);
@@ -75,7 +75,7 @@ pub fn legend() -> String {
         (Permission::Rx, false, Form::Whole, "rx: read, execute"),
         (Permission::Rw, false, Form::Whole, "rw: read, write"),
         (Permission::Rwx, false, Form::Whole, "rwx: all"),
-        (Permission::Rw, true, Form::Whole, "striped: the strongest in the block; the rest has less"),
+        (Permission::Rw, true, Form::Whole, "striped: the strongest in the block; the rest has another or less"),
         (Permission::Rw, false, Form::Pieces, "by pieces of 2 MiB"),
         (Permission::Rw, false, Form::Pages { page: 0, reserved: false }, "by pages (L1 page)"),
         (Permission::None, false, Form::Bad, "faults: a bad entry or a page that is not lent"),
@@ -87,6 +87,6 @@ pub fn legend() -> String {
         text += &format!("<span><i class=\"{}\">{}</i>{about}</span>\n", classes(&block), sign(&block));
     }
     text += "<span><i class=\"c none lent\"></i>dot: it holds lent pages</span>\n";
-    text += "<p>A lent page is R0 the root of slot 0, L0 an L1 page of slot 0, !! used twice, or free.</p>\n";
+    text += "<p>A lent page is R0 the root of slot 0, P0 an L1 page of slot 0, !! used twice, or free.</p>\n";
     text + "</section>\n"
 }

@@ -46,7 +46,7 @@ pub fn draw_page(sheet: &mut Sheet, page: Use, place: Box, number: u64) {
     let (colour, text) = match page {
         Use::Free => ("#ffffff", String::new()),
         Use::Root(slot) => ("#cdb8e8", format!("R{slot}")),
-        Use::L1(slot) => ("#f3dc8a", format!("L{slot}")),
+        Use::L1(slot) => ("#f3dc8a", format!("P{slot}")),
         Use::Twice => (FAULT, "!!".to_string()),
     };
     sheet.begin_group(&format!("page 0x{number:x}: {}", page.text()));

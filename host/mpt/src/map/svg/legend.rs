@@ -17,7 +17,7 @@ const SIGNS: [(Permission, bool, Form, &str); 8] = [
     (Permission::Rx, false, Form::Whole, "x: rx, read and execute"),
     (Permission::Rw, false, Form::Whole, "w: rw, read and write"),
     (Permission::Rwx, false, Form::Whole, "a: rwx, all"),
-    (Permission::Rw, true, Form::Whole, "striped: the rest has less"),
+    (Permission::Rw, true, Form::Whole, "the rest has another or less"),
     (Permission::Rw, false, Form::Pieces, "by pieces of 2 MiB"),
     (Permission::Rw, false, Form::Pages { page: 0, reserved: false }, "by pages (L1 page)"),
     (Permission::None, false, Form::Bad, "faults: bad entry"),

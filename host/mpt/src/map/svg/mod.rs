@@ -32,8 +32,10 @@ pub fn draw(picture: &Picture) -> String {
 fn sheet_of(picture: &Picture, sheet: &mut Sheet) -> f64 {
     sheet.text(LEFT, TOP, Type::of(56.0), "Memory protection table");
     sheet.text(LEFT, TOP + 48.0, Type::of(28.0), &summary(picture));
-    let alarm = !picture.is_fine();
-    sheet.text(LEFT, TOP + 88.0, Type { alarm, ..Type::of(30.0) }, &verdict(picture));
+    let (alarm, verdict) = (!picture.is_fine(), verdict(picture));
+    // small enough that it ends on the sheet: half of it may be bold capitals
+    let size = ((RIGHT - LEFT) / verdict.len() as f64 / 0.75).min(30.0);
+    sheet.text(LEFT, TOP + 88.0, Type { alarm, ..Type::of(size) }, &verdict);
     let crowded = picture.domains.len() > 4 && picture.paw > 32;
     let y = lists::above(sheet, picture, if crowded { 3 } else { 6 }, TOP + 100.0) + 16.0;
     let layout = Layout::of(picture, BOTTOM - y - pages_height(picture) - legend::HEIGHT);
