@@ -1,2 +1,2 @@
---   Codes    numbers for what crosses to C: what is asked by code, and what is answered in one word
-pub mod Codes
+--   CallWords   what each call answers to C, in one word
+pub mod CallWords

@@ -1,49 +1,42 @@
 // The monitor for C: numbers and slices in, one word out. Nothing here stores through a reference: an edit and an open store into the
 // lent words by `table::store::store_word` alone, and whoever holds the slots puts the register that open answers into its slot.
-mod code;
-
-use crate::code::answer_word;
-use crate::code::fault_word;
-use crate::code::kind_at;
-use crate::code::permission_at;
-use crate::code::privilege_at;
-use crate::code::reply_word;
-use crate::code::slot_at;
 use monitor::Outcome;
 use table::board::Word;
 use table::board::wide;
 use types::Address;
 use types::Admission;
 use types::Frame;
-use types::Kind;
+use types::KindCode;
 use types::PageNumber;
-use types::Permission;
-use types::Privilege;
+use types::PermissionCode;
+use types::PrivilegeCode;
 use types::Sdid;
+use types::code::answer_word;
+use types::code::fault_word;
+use types::code::kind_at;
+use types::code::permission_at;
+use types::code::privilege_at;
+use types::code::reply_word;
 use types::number::of_refusal;
 ghost use mathlib.Core.Path.{_≡_};
 ghost use mathlib.Core.List.{List};
 ghost use Prim.Native.Nat.{ℕ, _/_};
-ghost use lib.ListN.{length};
+ghost use lib.ListN.{length, getD};
 ghost use Rattle.model.specs.Calls.{openSlot, closeSlot};
 ghost use Rattle.slots.specs.Outcomes.{outcomeOf};
-ghost use Rattle.api.specs.Codes.{version, privilegeAt, kindAt, permissionAt, openedWord, doneWord, lookupWord, soundWord, editWord, editMemory};
+ghost use Rattle.types.specs.Codes.{privilegeAt, kindAt, permissionAt};
+ghost use Rattle.api.specs.CallWords.{version, openedWord, doneWord, lookupWord, soundWord, editWord, editMemory};
 ghost use Rattle.table.specs.Board.{boardFrame, WORDS};
 
-// A privilege, a kind of access and a permission by their codes, if they name one.
-pub enum PrivilegeCode {
-    Known(Privilege),
-    Unknown,
-}
-
-pub enum KindCode {
-    Known(Kind),
-    Unknown,
-}
-
-pub enum PermissionCode {
-    Known(Permission),
-    Unknown,
+// Slot s, and zero where there is none.
+fn slot_at(slots: [Word; 8], s: u64) -> Word
+    ensures { λ r. ⌜ r ≡ getD slots s 0 ⌝ }
+{
+    if s < 8 {
+        let at = s as usize;
+        return slots[at];
+    }
+    0
 }
 
 // What an open answers, in one word.

@@ -9,7 +9,7 @@ use Rattle.model.specs.Fence.{domainFence}
 use Rattle.model.specs.Stores.{Store}
 use Rattle.model.specs.Calls.{refusedWith, closed, edited, rootOf, finished, storeListWith, storeList}
 use Rattle.laws.proofs.PageRuns.{quickForms, forms-quick}
-use Rattle.cases.specs.Bench.{board, smallBoard, badBoard, none, readWrite, ask, askOf, most, opens, closes, closesOn, look, lookBy, eightBytes, freePagesOf, wordsStored, topDigit, wpriSet, pastTheBlocks}
+use Rattle.cases.specs.Bench.{bench, smallBench, badBench, none, readWrite, ask, askOf, most, opens, closes, closesOn, look, lookBy, eightBytes, freePagesOf, wordsStored, topDigit, wpriSet, pastTheBlocks}
 use Rattle.cases.proofs.Sounds.{quickSound, sound-quick}
 use Rattle.cases.proofs.Calls.{held-is-8, full-is-7}
 use Rattle.cases.proofs.Compute.{compute, pos, quick}
@@ -65,11 +65,11 @@ pub R-load : look wpriSet 0x40000000 (itself load) ≡ allowed
 unfolding compute wpriSet
 R-load = refl
 
-pub U-look-frame : lookBy badBoard 0x2140000000080000 outcomeNew 0x40000000 (itself load) ≡ refused 1
+pub U-look-frame : lookBy badBench 0x2140000000080000 outcomeNew 0x40000000 (itself load) ≡ refused 1
 unfolding compute slots5 memoryNew outcomeNew
 U-look-frame = refl
 
-pub U-look-register : lookBy board 0x2140000000080000 outcomeNew 0x40000000 (itself load) ≡ refused 2
+pub U-look-register : lookBy bench 0x2140000000080000 outcomeNew 0x40000000 (itself load) ≡ refused 2
 unfolding compute slots5 memoryNew outcomeNew
 U-look-register = refl
 
@@ -107,7 +107,7 @@ pub K-freed : quick 32 0x80000 2 outcomeK2 (ask 0x42000000 0x1000 readWrite) mos
 unfolding compute slots5 outcomeK2
 K-freed = refl
 
-pub N-held : opens board outcomeN 2 0 .reply ≡ refusedWith 8
+pub N-held : opens bench outcomeN 2 0 .reply ≡ refusedWith 8
 unfolding compute outcomeN
 N-held = refl
 
@@ -115,17 +115,17 @@ pub N-close : closes outcomeN 1 .fence ≡ domainFence 0
 unfolding compute outcomeN
 N-close = refl
 
-pub K1-sound : quickSound smallBoard (outcomeK1 .memory) (outcomeK1 .slots) ≡ true
+pub K1-sound : quickSound smallBench (outcomeK1 .memory) (outcomeK1 .slots) ≡ true
 unfolding compute slots5 outcomeK1
 K1-sound = refl
 
-pub N-first : opens smallBoard outcomeK1 1 5 .reply ≡ refusedWith 8
+pub N-first : opens smallBench outcomeK1 1 5 .reply ≡ refusedWith 8
 unfolding compute slots5 outcomeK1
-N-first = held-is-8 smallBoard (outcomeK1 .memory) (outcomeK1 .slots) 1 5 refl (sound-quick smallBoard (outcomeK1 .memory) (outcomeK1 .slots) ∙ K1-sound) refl refl
+N-first = held-is-8 smallBench (outcomeK1 .memory) (outcomeK1 .slots) 1 5 refl (sound-quick smallBench (outcomeK1 .memory) (outcomeK1 .slots) ∙ K1-sound) refl refl
 
-pub N-full : opens smallBoard outcomeK1 1 0 .reply ≡ refusedWith 7
+pub N-full : opens smallBench outcomeK1 1 0 .reply ≡ refusedWith 7
 unfolding compute slots5 outcomeK1
-N-full = full-is-7 smallBoard (outcomeK1 .memory) (outcomeK1 .slots) 1 0 refl (sound-quick smallBoard (outcomeK1 .memory) (outcomeK1 .slots) ∙ K1-sound) refl refl refl
+N-full = full-is-7 smallBench (outcomeK1 .memory) (outcomeK1 .slots) 1 0 refl (sound-quick smallBench (outcomeK1 .memory) (outcomeK1 .slots) ∙ K1-sound) refl refl refl
 
 pub P-close : closes topDigit 0 .reply ≡ refusedWith 3
 unfolding compute topDigit
@@ -161,23 +161,23 @@ pub U-lent : quick 32 0x80000 2 outcomeK1 (ask 0x80000000 0x1000 readWrite) most
 unfolding compute slots5 outcomeK1
 U-lent = refl
 
-pub U-open-frame : opens badBoard topDigit 8 64 .reply ≡ refusedWith 1
+pub U-open-frame : opens badBench topDigit 8 64 .reply ≡ refusedWith 1
 unfolding compute topDigit
 U-open-frame = refl
 
-pub U-open-unsound : opens board topDigit 8 64 .reply ≡ refusedWith 3
+pub U-open-unsound : opens bench topDigit 8 64 .reply ≡ refusedWith 3
 unfolding compute topDigit
 U-open-unsound = refl
 
-pub U-open-slot : opens board outcomeNew 8 64 .reply ≡ refusedWith 4
+pub U-open-slot : opens bench outcomeNew 8 64 .reply ≡ refusedWith 4
 unfolding compute slots5 memoryNew outcomeNew
 U-open-slot = refl
 
-pub U-open-sdid : opens board outcomeNew 1 64 .reply ≡ refusedWith 8
+pub U-open-sdid : opens bench outcomeNew 1 64 .reply ≡ refusedWith 8
 unfolding compute slots5 memoryNew outcomeNew
 U-open-sdid = refl
 
-pub U-close-frame : closesOn badBoard topDigit 8 .reply ≡ refusedWith 1
+pub U-close-frame : closesOn badBench topDigit 8 .reply ≡ refusedWith 1
 unfolding compute topDigit
 U-close-frame = refl
 
@@ -194,14 +194,14 @@ U-close-slot = refl
 abbrev pub gib : Request
 gib = ask 0x40000000 0x40000000 readWrite
 
-pub G-words : map (λ (s : Store). s .word) (storeListWith board memoryC slots5 gib (quickForms board memoryC gib (rootOf board slots5 gib) pos)) ≡ replicate 32 0x0000200000000000
+pub G-words : map (λ (s : Store). s .word) (storeListWith bench memoryC slots5 gib (quickForms bench memoryC gib (rootOf bench slots5 gib) pos)) ≡ replicate 32 0x0000200000000000
 unfolding compute slots5 memoryC
 G-words = refl
 
 pub G-stored : wordsStored outcomeC gib ≡ replicate 32 0x0000200000000000
 unfolding storeList finished outcomeC
 G-stored =
-    ap (λ (fs : List Form). map (λ (s : Store). s .word) (storeListWith board memoryC slots5 gib fs)) (forms-quick board memoryC gib (rootOf board slots5 gib) pos)
+    ap (λ (fs : List Form). map (λ (s : Store). s .word) (storeListWith bench memoryC slots5 gib fs)) (forms-quick bench memoryC gib (rootOf bench slots5 gib) pos)
     ∙ G-words
 
 pub G-free : freePagesOf outcomeG ≡ 15

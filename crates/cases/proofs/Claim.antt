@@ -4,7 +4,7 @@ use mathlib.Core.Path.{refl, ap, _∙_}
 use lib.ListN.{take, drop}
 use Rattle.model.specs.Access.{itself, tableRead, fetch, load, store}
 use Rattle.model.specs.Calls.{Outcome, Reply}
-use Rattle.cases.specs.Bench.{board, smallBoard, badBoard, none, readWrite, ask, askOf, most, opens, closes, look, lookBy, registerAt, l2, l1, eightBytes, freePagesOf, wordsStored, topDigit}
+use Rattle.cases.specs.Bench.{bench, smallBench, badBench, none, readWrite, ask, askOf, most, opens, closes, look, lookBy, registerAt, l2, l1, eightBytes, freePagesOf, wordsStored, topDigit}
 use Rattle.cases.specs.Cases.{AllOf, done, both, markedCases, otherCases}
 use Rattle.cases.proofs.Compute.{compute, runs}
 use Rattle.cases.proofs.States.{slots5, memoryNew, outcomeNew, new-is, memoryC, outcomeC, C-is, outcomeF, F-is, memoryG, outcomeG, G-is, outcomeH, H-is, outcome512, D512-is, outcome513, D513-is, outcomeK1, K1-is, outcomeK2, K2-is, outcomeL, L-is, outcomeM, M-is, outcomeM2, M2-is, outcomeN, N-is, outcomeO, O-is, outcomeT, T-is}
@@ -68,10 +68,10 @@ others =
     (both (ap replyOf M2-is)
     (both (ap (λ (o : Outcome). take 2 (drop 95 (o .memory))) M2-is)
     (both (ap (λ (o : Outcome). registerAt o 1) N-is)
-    (both (ap (λ (o : Outcome). opens board o 2 0 .reply) N-is ∙ N-held)
+    (both (ap (λ (o : Outcome). opens bench o 2 0 .reply) N-is ∙ N-held)
     (both (ap (λ (o : Outcome). closes o 1 .fence) N-is ∙ N-close)
-    (both (ap (λ (o : Outcome). opens smallBoard o 1 5 .reply) K1-is ∙ N-first)
-    (both (ap (λ (o : Outcome). opens smallBoard o 1 0 .reply) K1-is ∙ N-full)
+    (both (ap (λ (o : Outcome). opens smallBench o 1 5 .reply) K1-is ∙ N-first)
+    (both (ap (λ (o : Outcome). opens smallBench o 1 0 .reply) K1-is ∙ N-full)
     (both (ap replyOf O-is)
     (both (ap (λ (o : Outcome). l2 o 32) O-is)
     (both (ap freePagesOf O-is ∙ O-free)
@@ -92,11 +92,11 @@ others =
     (both (runs 32 0x80000 2 replyOf (ask 0x80000000 0x1000 readWrite) most K1-is U-lent)
     (both U-open-frame
     (both U-open-unsound
-    (both (ap (λ (o : Outcome). opens board o 8 64 .reply) new-is ∙ U-open-slot)
-    (both (ap (λ (o : Outcome). opens board o 1 64 .reply) new-is ∙ U-open-sdid)
+    (both (ap (λ (o : Outcome). opens bench o 8 64 .reply) new-is ∙ U-open-slot)
+    (both (ap (λ (o : Outcome). opens bench o 1 64 .reply) new-is ∙ U-open-sdid)
     (both U-close-frame
     (both U-close-unsound
     (both (ap (λ (o : Outcome). closes o 8 .reply) new-is ∙ U-close-slot)
-    (both (ap (λ (o : Outcome). lookBy badBoard 0x2140000000080000 o 0x40000000 (itself load)) new-is ∙ U-look-frame)
-    (both (ap (λ (o : Outcome). lookBy board 0x2140000000080000 o 0x40000000 (itself load)) new-is ∙ U-look-register)
+    (both (ap (λ (o : Outcome). lookBy badBench 0x2140000000080000 o 0x40000000 (itself load)) new-is ∙ U-look-frame)
+    (both (ap (λ (o : Outcome). lookBy bench 0x2140000000080000 o 0x40000000 (itself load)) new-is ∙ U-look-register)
     done))))))))))))))))))))))))))))))))))))))))))))))))))

@@ -9,7 +9,7 @@ use Rattle.model.specs.Frame.{Frame}
 use Rattle.model.specs.Forms.{Request}
 use Rattle.model.specs.Fence.{Fence, noFence, domainFence, addressFence}
 use Rattle.model.specs.Calls.{Outcome, Reply, opened, edited}
-use Rattle.cases.specs.Bench.{board, smallBoard, none, rx, readWrite, ask, most, opens, edits, blank, new, afterC, afterF, afterG, afterH, cut512, cut513, small0, small1, small2, afterL, afterM, afterM2, withZero, unfinished, afterO, onePageShort, afterT}
+use Rattle.cases.specs.Bench.{bench, smallBench, none, rx, readWrite, ask, most, opens, edits, blank, new, afterC, afterF, afterG, afterH, cut512, cut513, small0, small1, small2, afterL, afterM, afterM2, withZero, unfinished, afterO, onePageShort, afterT}
 use Rattle.cases.proofs.Passes.{pasted, sets-pasted}
 use Rattle.cases.proofs.Calls.{quickOpen}
 use Rattle.cases.proofs.Compute.{compute, quick, run, run-open}
@@ -34,7 +34,7 @@ memoryNew = replicate 8192 0
 unfoldable pub outcomeNew : Outcome
 outcomeNew = left opened memoryNew slots5 noFence
 
-new-run : quickOpen board (blank 8192 .memory) (blank 8192 .slots) 0 5 ≡ outcomeNew
+new-run : quickOpen bench (blank 8192 .memory) (blank 8192 .slots) 0 5 ≡ outcomeNew
 unfolding compute memoryNew slots5 outcomeNew
 new-run = refl
 
@@ -126,7 +126,7 @@ D513-is = run 32 0x80000 16 (ask 0x40000000 0x1000 readWrite) 513 new-is D513-ru
 unfoldable pub outcomeK0 : Outcome
 outcomeK0 = left opened (replicate 1024 0) slots5 noFence
 
-K0-run : quickOpen smallBoard (blank 1024 .memory) (blank 1024 .slots) 0 5 ≡ outcomeK0
+K0-run : quickOpen smallBench (blank 1024 .memory) (blank 1024 .slots) 0 5 ≡ outcomeK0
 unfolding compute slots5 outcomeK0
 K0-run = refl
 
@@ -197,7 +197,7 @@ M2-is = run 32 0x80000 16 (ask 0xBFFFF000 0x2000 readWrite) most new-is M2-run
 unfoldable pub outcomeN : Outcome
 outcomeN = left opened (replicate 8192 0) (set (set (replicate 8 0) 0 0x1140000000080000) 1 0x1000000000080001) noFence
 
-N-run : quickOpen board (outcomeNew .memory) (outcomeNew .slots) 1 0 ≡ outcomeN
+N-run : quickOpen bench (outcomeNew .memory) (outcomeNew .slots) 1 0 ≡ outcomeN
 unfolding compute slots5 memoryNew outcomeNew outcomeN
 N-run = refl
 

@@ -1,4 +1,4 @@
--- The board, the domains and the edits that the cases speak of.
+-- The bench, the domains and the edits that the cases speak of.
 use mathlib.Core.List.{List, [], _∷_, map}
 use Prim.Native.Nat.{ℕ, _+_}
 use lib.ListN.{getD, length, replicate, set}
@@ -16,14 +16,14 @@ use Rattle.model.specs.Calls.{Outcome, opened, openSlot, closeSlot, editSlot, s
 
 -- ---- the board: "PAW 32, 16 pages from page 0x80000"; one of two pages for case K; one whose frame breaks its bounds, since page 0 is lent
 
-abbrev pub board : Frame
-board = record { layout = rv64; paw = 32; first = 0x80000; pages = 16 }
+abbrev pub bench : Frame
+bench = record { layout = rv64; paw = 32; first = 0x80000; pages = 16 }
 
-abbrev pub smallBoard : Frame
-smallBoard = record { layout = rv64; paw = 32; first = 0x80000; pages = 2 }
+abbrev pub smallBench : Frame
+smallBench = record { layout = rv64; paw = 32; first = 0x80000; pages = 2 }
 
-abbrev pub badBoard : Frame
-badBoard = record { layout = rv64; paw = 32; first = 0; pages = 16 }
+abbrev pub badBench : Frame
+badBench = record { layout = rv64; paw = 32; first = 0; pages = 16 }
 
 -- ---- what is asked
 
@@ -62,32 +62,32 @@ module _ (F : Frame) where
   lookBy r o address kind = lookup F (o .memory) r supervisor address kind
 
 abbrev pub closes : Outcome → ℕ → Outcome
-closes = closesOn board
+closes = closesOn bench
 
 -- by slot 0's register
 abbrev pub look : Outcome → ℕ → Kind → Answer
-look o = lookBy board (getD (o .slots) 0 0) o
+look o = lookBy bench (getD (o .slots) 0 0) o
 
 -- the register of slot s, L2 entry b of slot 0's root, entry i of its first L1 page
 abbrev pub registerAt : Outcome → ℕ → ℕ
 registerAt o s = getD (o .slots) s 0
 
 abbrev pub l2 : Outcome → ℕ → ℕ
-l2 o b = wordAt board (o .memory) 0x80000 b
+l2 o b = wordAt bench (o .memory) 0x80000 b
 
 abbrev pub l1 : Outcome → ℕ → ℕ
-l1 o i = wordAt board (o .memory) 0x80001 i
+l1 o i = wordAt bench (o .memory) 0x80001 i
 
 -- the eight bytes of the lent memory from byte n on
 abbrev pub eightBytes : Outcome → ℕ → List ℕ
 eightBytes o n = map (λ i. byteAt rv64 (o .memory) (n + i)) (0 ∷ 1 ∷ 2 ∷ 3 ∷ 4 ∷ 5 ∷ 6 ∷ 7 ∷ [])
 
 abbrev pub freePagesOf : Outcome → ℕ
-freePagesOf o = length (freePages board (o .memory) (roots board (o .slots)))
+freePagesOf o = length (freePages bench (o .memory) (roots bench (o .slots)))
 
 -- the words that the whole edit stores, in order
 abbrev pub wordsStored : Outcome → Request → List ℕ
-wordsStored o q = map (λ s. s .word) (storeList board (o .memory) (o .slots) q)
+wordsStored o q = map (λ s. s .word) (storeList bench (o .memory) (o .slots) q)
 
 -- ---- the states that the cases start from
 
@@ -101,51 +101,51 @@ stands m r = record { reply = opened; memory = m; slots = set (replicate 8 empty
 
 -- "slot 0 opened with SDID 5"
 unfoldable pub new : Outcome
-new = opens board (blank 8192) 0 5
+new = opens bench (blank 8192) 0 5
 
 unfoldable pub afterC : Outcome
-afterC = edits board new (ask 0x40000000 0x1000 readWrite) most
+afterC = edits bench new (ask 0x40000000 0x1000 readWrite) most
 
 unfoldable pub afterF : Outcome
-afterF = edits board afterC (ask 0x40003000 0x1000 rx) most
+afterF = edits bench afterC (ask 0x40003000 0x1000 rx) most
 
 unfoldable pub afterG : Outcome
-afterG = edits board afterC (ask 0x40000000 0x40000000 readWrite) most
+afterG = edits bench afterC (ask 0x40000000 0x40000000 readWrite) most
 
 unfoldable pub afterH : Outcome
-afterH = edits board afterG (ask 0x40200000 0x200000 none) most
+afterH = edits bench afterG (ask 0x40200000 0x200000 none) most
 
 -- D: C with limits that cut it
 unfoldable pub cut512 : Outcome
-cut512 = edits board new (ask 0x40000000 0x1000 readWrite) 512
+cut512 = edits bench new (ask 0x40000000 0x1000 readWrite) 512
 
 unfoldable pub cut513 : Outcome
-cut513 = edits board new (ask 0x40000000 0x1000 readWrite) 513
+cut513 = edits bench new (ask 0x40000000 0x1000 readWrite) 513
 
 -- K: on two pages
 unfoldable pub small0 : Outcome
-small0 = opens smallBoard (blank 1024) 0 5
+small0 = opens smallBench (blank 1024) 0 5
 
 unfoldable pub small1 : Outcome
-small1 = edits smallBoard small0 (ask 0x40000000 0x1000 readWrite) most
+small1 = edits smallBench small0 (ask 0x40000000 0x1000 readWrite) most
 
 unfoldable pub small2 : Outcome
-small2 = edits smallBoard small1 (ask 0x40000000 0x1000 none) most
+small2 = edits smallBench small1 (ask 0x40000000 0x1000 none) most
 
 -- L: one page whose pn[1] is 5 and whose pn[0] is 9
 unfoldable pub afterL : Outcome
-afterL = edits board new (ask 0x40059000 0x1000 readWrite) most
+afterL = edits bench new (ask 0x40059000 0x1000 readWrite) most
 
 -- M: a range across the GiB boundary at 0xC0000000: two whole pieces; two pages
 unfoldable pub afterM : Outcome
-afterM = edits board new (ask 0xBFE00000 0x400000 readWrite) most
+afterM = edits bench new (ask 0xBFE00000 0x400000 readWrite) most
 
 unfoldable pub afterM2 : Outcome
-afterM2 = edits board new (ask 0xBFFFF000 0x2000 readWrite) most
+afterM2 = edits bench new (ask 0xBFFFF000 0x2000 readWrite) most
 
 -- N: slot 1 opened with SDID 0
 unfoldable pub withZero : Outcome
-withZero = opens board new 1 0
+withZero = opens bench new 1 0
 
 -- O: a table in unfinished form: GiB 1 is all rw, block 32 by an L1 page and the others by 1G types
 unfoldable pub unfinished : Outcome
@@ -153,7 +153,7 @@ unfinished =
     stands (sets (set (sets (replicate 8192 0) 33 (replicate 31 0x0000200000000000)) 32 0x0000400000080001) 512 (replicate 512 0x2222222222222222)) 0x1140000000080000
 
 unfoldable pub afterO : Outcome
-afterO = edits board unfinished (ask 0x40200000 0x200000 none) most
+afterO = edits bench unfinished (ask 0x40200000 0x200000 none) most
 
 -- P: case C's table, but that INFO of L2 entry 32 has bit 32 set: page 0x100080001, which is not lent
 unfoldable pub topDigit : Outcome
@@ -175,4 +175,4 @@ onePageShort =
     0x1140000000080000
 
 unfoldable pub afterT : Outcome
-afterT = edits board onePageShort (ask 0x40000000 0x1000 readWrite) most
+afterT = edits bench onePageShort (ask 0x40000000 0x1000 readWrite) most

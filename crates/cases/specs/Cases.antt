@@ -11,7 +11,7 @@ use Rattle.model.specs.Walk.{pn0, pn1, pn2}
 use Rattle.model.specs.Access.{itself, tableRead, fetch, load, store, refused, allowed, fault}
 use Rattle.model.specs.Fence.{domainFence, addressFence}
 use Rattle.model.specs.Calls.{refusedWith, closed, edited}
-use Rattle.cases.specs.Bench.{board, smallBoard, badBoard, none, readWrite, ask, askOf, most, opens, edits, closes, closesOn, look, lookBy, registerAt, l2, l1, eightBytes, freePagesOf, wordsStored, new, afterC, afterF, afterG, afterH, cut512, cut513, small1, small2, afterL, afterM, afterM2, withZero, afterO, topDigit, wpriSet, pastTheBlocks, afterT}
+use Rattle.cases.specs.Bench.{bench, smallBench, badBench, none, readWrite, ask, askOf, most, opens, edits, closes, closesOn, look, lookBy, registerAt, l2, l1, eightBytes, freePagesOf, wordsStored, new, afterC, afterF, afterG, afterH, cut512, cut513, small1, small2, afterL, afterM, afterM2, withZero, afterO, topDigit, wpriSet, pastTheBlocks, afterT}
 
 -- every one of these statements holds
 pub data AllOf : List (Type 0) → Type 1 where
@@ -64,17 +64,17 @@ markedCases =
     -- H. L2 entry 32
     ∷ (l2 afterH 32 ≡ 0x00006000AAAAAAA2)
     -- I. on the new domain, edit: rw, 0xFFFFF000, length 0x1000
-    ∷ (edits board new (ask 0xFFFFF000 0x1000 readWrite) most .reply ≡ edited 544 true)
+    ∷ (edits bench new (ask 0xFFFFF000 0x1000 readWrite) most .reply ≡ edited 544 true)
     -- I. the same, length 0x2000
-    ∷ (edits board new (ask 0xFFFFF000 0x2000 readWrite) most .reply ≡ refusedWith 5)
+    ∷ (edits bench new (ask 0xFFFFF000 0x2000 readWrite) most .reply ≡ refusedWith 5)
     -- I. load 0x100000000
     ∷ (look new 0x100000000 (itself load) ≡ fault 5)
     -- J. on the new domain, edit: rw, 0x8000F000, one page
-    ∷ (edits board new (ask 0x8000F000 0x1000 readWrite) most .reply ≡ refusedWith 6)
+    ∷ (edits bench new (ask 0x8000F000 0x1000 readWrite) most .reply ≡ refusedWith 6)
     -- J. rw, 0x80010000, one page
-    ∷ (edits board new (ask 0x80010000 0x1000 readWrite) most .reply ≡ edited 544 true)
+    ∷ (edits bench new (ask 0x80010000 0x1000 readWrite) most .reply ≡ edited 544 true)
     -- J. none, 0x8000F000, one page
-    ∷ (edits board new (ask 0x8000F000 0x1000 none) most .reply ≡ edited 0 true)
+    ∷ (edits bench new (ask 0x8000F000 0x1000 none) most .reply ≡ edited 0 true)
     ∷ []
 
 abbrev pub otherCases : List (Type 0)
@@ -90,15 +90,15 @@ otherCases =
     -- D. and load 0x40001000
     ∷ (look cut513 0x40001000 (itself load) ≡ fault 5)
     -- D. C again from there
-    ∷ (edits board cut513 (ask 0x40000000 0x1000 readWrite) most .reply ≡ edited 31 true)
+    ∷ (edits bench cut513 (ask 0x40000000 0x1000 readWrite) most .reply ≡ edited 31 true)
     -- K. two pages lent, edit: rw, 0x40000000, one page
     ∷ (small1 .reply ≡ edited 544 true)
     -- K. then rw, 0x42000000, one page
-    ∷ (edits smallBoard small1 (ask 0x42000000 0x1000 readWrite) most .reply ≡ refusedWith 7)
+    ∷ (edits smallBench small1 (ask 0x42000000 0x1000 readWrite) most .reply ≡ refusedWith 7)
     -- K. none on the first
     ∷ (small2 .reply ≡ edited 32 true)
     -- K. then the second
-    ∷ (edits smallBoard small2 (ask 0x42000000 0x1000 readWrite) most .reply ≡ edited 544 true)
+    ∷ (edits smallBench small2 (ask 0x42000000 0x1000 readWrite) most .reply ≡ edited 544 true)
     -- L. pn[1] 5 and pn[0] 9, edit: rw, 0x40059000, one page
     ∷ (afterL .reply ≡ edited 544 true)
     -- L. L1 entry 5
@@ -120,13 +120,13 @@ otherCases =
     -- N. open slot 1 with SDID 0
     ∷ (registerAt withZero 1 ≡ 0x1000000000080001)
     -- N. open slot 2 with SDID 0
-    ∷ (opens board withZero 2 0 .reply ≡ refusedWith 8)
+    ∷ (opens bench withZero 2 0 .reply ≡ refusedWith 8)
     -- N. close slot 1: the fence
     ∷ (closes withZero 1 .fence ≡ domainFence 0)
     -- N. two pages lent and none free, open slot 1 with SDID 5, which slot 0 holds
-    ∷ (opens smallBoard small1 1 5 .reply ≡ refusedWith 8)
+    ∷ (opens smallBench small1 1 5 .reply ≡ refusedWith 8)
     -- N. the same with SDID 0
-    ∷ (opens smallBoard small1 1 0 .reply ≡ refusedWith 7)
+    ∷ (opens smallBench small1 1 0 .reply ≡ refusedWith 7)
     -- O. a GiB of rw in unfinished form, edit: none, 0x40200000, length 0x200000
     ∷ (afterO .reply ≡ edited 32 true)
     -- O. L2 entry 32
@@ -154,31 +154,31 @@ otherCases =
     -- T. its fence
     ∷ (afterT .fence ≡ domainFence 5)
     -- U. lowest number first: all wrong at once, edit: slot 8, rw, 0x8000F000, length 0x800, on P's table, page 0 lent
-    ∷ (edits badBoard topDigit (askOf 8 0x8000F000 0x800 readWrite) most .reply ≡ refusedWith 1)
+    ∷ (edits badBench topDigit (askOf 8 0x8000F000 0x800 readWrite) most .reply ≡ refusedWith 1)
     -- U. the same with the right frame
-    ∷ (edits board topDigit (askOf 8 0x8000F000 0x800 readWrite) most .reply ≡ refusedWith 3)
+    ∷ (edits bench topDigit (askOf 8 0x8000F000 0x800 readWrite) most .reply ≡ refusedWith 3)
     -- U. the same on the new domain
-    ∷ (edits board new (askOf 8 0x8000F000 0x800 readWrite) most .reply ≡ refusedWith 4)
+    ∷ (edits bench new (askOf 8 0x8000F000 0x800 readWrite) most .reply ≡ refusedWith 4)
     -- U. the same in slot 0
-    ∷ (edits board new (ask 0x8000F000 0x800 readWrite) most .reply ≡ refusedWith 5)
+    ∷ (edits bench new (ask 0x8000F000 0x800 readWrite) most .reply ≡ refusedWith 5)
     -- U. two pages lent and none free, edit: rw, 0x80000000, one page
-    ∷ (edits smallBoard small1 (ask 0x80000000 0x1000 readWrite) most .reply ≡ refusedWith 6)
+    ∷ (edits smallBench small1 (ask 0x80000000 0x1000 readWrite) most .reply ≡ refusedWith 6)
     -- U. open slot 8 with SDID 64 on P's table, page 0 lent
-    ∷ (opens badBoard topDigit 8 64 .reply ≡ refusedWith 1)
+    ∷ (opens badBench topDigit 8 64 .reply ≡ refusedWith 1)
     -- U. the same with the right frame
-    ∷ (opens board topDigit 8 64 .reply ≡ refusedWith 3)
+    ∷ (opens bench topDigit 8 64 .reply ≡ refusedWith 3)
     -- U. the same on the new domain
-    ∷ (opens board new 8 64 .reply ≡ refusedWith 4)
+    ∷ (opens bench new 8 64 .reply ≡ refusedWith 4)
     -- U. the same in slot 1
-    ∷ (opens board new 1 64 .reply ≡ refusedWith 8)
+    ∷ (opens bench new 1 64 .reply ≡ refusedWith 8)
     -- U. close slot 8 on P's table, page 0 lent
-    ∷ (closesOn badBoard topDigit 8 .reply ≡ refusedWith 1)
+    ∷ (closesOn badBench topDigit 8 .reply ≡ refusedWith 1)
     -- U. the same with the right frame
     ∷ (closes topDigit 8 .reply ≡ refusedWith 3)
     -- U. the same on the new domain
     ∷ (closes new 8 .reply ≡ refusedWith 4)
     -- U. lookup by a register of MODE 2, page 0 lent
-    ∷ (lookBy badBoard 0x2140000000080000 new 0x40000000 (itself load) ≡ refused 1)
+    ∷ (lookBy badBench 0x2140000000080000 new 0x40000000 (itself load) ≡ refused 1)
     -- U. the same with the right frame
-    ∷ (lookBy board 0x2140000000080000 new 0x40000000 (itself load) ≡ refused 2)
+    ∷ (lookBy bench 0x2140000000080000 new 0x40000000 (itself load) ≡ refused 2)
     ∷ []

@@ -1,6 +1,6 @@
 -- The bench cases of document 01 as statements about the definitions.
 --
---   Bench      the board, the domains and the edits that the cases speak of
+--   Bench      the bench, the domains and the edits that the cases speak of
 --   Cases      the cases: what is asked, and what is answered
 pub mod Bench
 pub mod Cases

@@ -1,7 +1,7 @@
 // A block that is read without an L1 page: its pieces are each of one permission before the edit, and info has them.
 use table::board::EACH_PIECE;
-use table::board::PIECE_LAST;
 use table::board::PIECE_PAGES;
+use table::board::PIECE_ROUND_UP;
 use table::board::PIECES;
 use table::board::Word;
 use table::word::PERMISSION_BITS;
@@ -53,8 +53,8 @@ pub fn even_form(edit: Edit, words: &[Word], e: Entry, b: u64, info: u64) -> For
     if mixes(edit.q, b, info, past) {
         return Form::Table;
     }
-    let low = cut((first + PIECE_LAST) / PIECE_PAGES, b * PIECES, PIECES);
-    let high = cut((past + PIECE_LAST) / PIECE_PAGES, b * PIECES, PIECES);
+    let low = cut((first + PIECE_ROUND_UP) / PIECE_PAGES, b * PIECES, PIECES);
+    let high = cut((past + PIECE_ROUND_UP) / PIECE_PAGES, b * PIECES, PIECES);
     Form::Pieces(splice(
         splice(info, edit.q.permission * EACH_PIECE, PERMISSION_BITS * low),
         info,

@@ -111,7 +111,7 @@ fn read_page(edit: Edit, words: &[Word], b: u64) -> u64
 }
 
 // The same; a block inside the range takes none, and is not read.
-fn new_page(edit: Edit, words: &[Word], b: u64) -> u64
+fn block_new_pages(edit: Edit, words: &[Word], b: u64) -> u64
     requires { ⌜ Rooted (frameOf (edit .f) (now words)) (now words) (edit .root .0) × (b < blocks (frameOf (edit .f) (now words))) × Fair (edit .q) ⌝ }
     ensures { λ r. ⌜ r ≡ (if needsPage (formIn (frameOf (edit .f) (now (words .entry))) (now (words .entry)) (requestOf (edit .q)) false 0
         (entryAt (frameOf (edit .f) (now (words .entry))) (now (words .entry)) (edit .root .0) b) b)
@@ -141,9 +141,9 @@ pub fn new_pages(edit: Edit, words: &[Word]) -> u64
     }
     let low = edit.q.start.0 / BLOCK_BYTES;
     let high = (edit.q.start.0 + edit.q.size - 1) / BLOCK_BYTES;
-    let at_low = new_page(edit, words, low);
+    let at_low = block_new_pages(edit, words, low);
     if low == high {
         return at_low;
     }
-    at_low + new_page(edit, words, high)
+    at_low + block_new_pages(edit, words, high)
 }

@@ -27,12 +27,12 @@ ghost use Rattle.model.specs.Walk as walk;
 ghost use Rattle.model.specs.Access as access;
 ghost use Rattle.model.specs.Lookup as lookup;
 ghost use Rattle.table.specs.Board.{BLOCKS, frameOf};
-ghost use Rattle.types.specs.Views.{entryOf, foundOf, permissionNumber, needOf, kindOf, causeNumber, privilegeOf, answerOf};
+ghost use Rattle.types.specs.Views.{entryOf, foundOf, permissionNumber, needView, kindOf, causeNumber, privilegeOf, answerOf};
 ghost use Rattle.lookup.specs.Granted.{grantedOf};
 ghost use Rattle.table.specs.Bounds.{Small};
 
 // The first stage: L2 entry b of a root, decoded once. It says nothing where the root page is not lent.
-fn entry_at(f: Frame, words: &[Word], root: PageNumber, b: u64) -> Entry
+fn l2_entry(f: Frame, words: &[Word], root: PageNumber, b: u64) -> Entry
     requires { ⌜ b < BLOCKS ⌝ }
     ensures { λ r. ⌜ (entryOf r ≡ walk.entryAt (frameOf f (now (words .entry))) (now (words .entry)) (root .0) b) × Small (entryOf r) ⌝ }
 {
@@ -77,7 +77,7 @@ fn walk(f: Frame, words: &[Word], root: PageNumber, number: PageNumber) -> Found
         return found(
             f,
             words,
-            entry_at(f, words, root, pages::pn2(number)),
+            l2_entry(f, words, root, pages::pn2(number)),
             number,
         );
     }
@@ -96,7 +96,7 @@ fn granted(found: Found) -> Permission
 
 // What an access is answered that has this need, and whose fault has this cause.
 fn judge(found: Found, need: Need, cause: Cause) -> Answer
-    ensures { λ r. ⌜ ((k : access.Kind) → needOf need ≡ access.needOf k → causeNumber cause ≡ access.causeOf (access.originalOf k)
+    ensures { λ r. ⌜ ((k : access.Kind) → needView need ≡ access.needOf k → causeNumber cause ≡ access.causeOf (access.originalOf k)
         → answerOf r ≡ access.judge (foundOf found) k) ⌝ }
 {
     if rights::may(granted(found), need) {

@@ -32,7 +32,7 @@ use Rattle.types.specs.Views.{permissionNumber, replyOf}
 use Rattle.slots.specs.declared.Outcome.{Outcome}
 use Rattle.types.specs.declared.Reply.{Reply}
 use Rattle.types.specs.declared.Reply.the-variants.{Refused, Opened, Closed, Edited}
-use Rattle.monitor.specs.Promise.{After, Call, CrashConsistent, Ending, Kept, Recovers, interrupted, request, reset, returned}
+use Rattle.monitor.specs.Promise.{Reaches, Call, CrashConsistent, Ending, Kept, Recovers, interrupted, request, reset, returned}
 use Rattle.table.specs.Board.{board, WORDS, ENTRY, frameOf, frameOver}
 use Rattle.range.proofs.Lawful.{board-lawful}
 
@@ -128,11 +128,11 @@ module _ (f : Frame) (slots : List ℕ) (slot start size : ℕ) (permission : Pe
   unfolding editSlot editWith editRefusal refuse
   refused-memory limit n = rw n
 
-  unchanged : eqb (editRefusal F m slots q) 0 ≡ false → (es : List Ending) (n : List ℕ) → After f slots slot start size permission es m n → n ≡ m
-  unfolding After interrupted
+  unchanged : eqb (editRefusal F m slots q) 0 ≡ false → (es : List Ending) (n : List ℕ) → Reaches f slots slot start size permission es m n → n ≡ m
+  unfolding Reaches interrupted
   unchanged z [] n h = sym h
   unchanged z (returned limit r m₁ ∷ es) n h =
-      unchanged z es n (subst (λ (x : List ℕ). After f slots slot start size permission es x n)
+      unchanged z es n (subst (λ (x : List ℕ). Reaches f slots slot start size permission es x n)
       (ap (λ (o : model.Outcome). o .memory) (h .0) ∙ refused-memory limit z) (h .1))
   unchanged z (reset k ∷ es) n h = unchanged z es n (rw z at h)
 
@@ -146,19 +146,19 @@ module _ (f : Frame) (slots : List ℕ) (slot start size : ℕ) (permission : Pe
 
   module _ (accepted : Accepted F slots q m) where
     -- the calls are a list of cuts
-    cuts : (es : List Ending) (ks n : List ℕ) → After f slots slot start size permission es (calls F slots q ks m) n → (js : List ℕ) × (n ≡ calls F slots q js m)
-    unfolding After
+    cuts : (es : List Ending) (ks n : List ℕ) → Reaches f slots slot start size permission es (calls F slots q ks m) n → (js : List ℕ) × (n ≡ calls F slots q js m)
+    unfolding Reaches
     cuts [] ks n h = (ks, sym h)
     cuts (returned limit r m₁ ∷ es) ks n h =
         cuts es (ks ++ (limit ∷ [])) n
-        (subst (λ (x : List ℕ). After f slots slot start size permission es x n)
+        (subst (λ (x : List ℕ). Reaches f slots slot start size permission es x n)
         (call-stops limit (calls F slots q ks m) r m₁ (calls-length ks m) (demand3 F board-lawful slots q m typed accepted ks .accepted) (h .0)
         ∙ sym (one-more F board-lawful slots q ks limit m))
         (h .1))
     cuts (reset k ∷ es) ks n h =
         let at : List ℕ = calls F slots q ks m in
         cuts es (ks ++ (k ∷ [])) n
-        (subst (λ (x : List ℕ). After f slots slot start size permission es x n)
+        (subst (λ (x : List ℕ). Reaches f slots slot start size permission es x n)
         (reset-stops k at (calls-length ks m) (demand3 F board-lawful slots q m typed accepted ks .accepted) ∙ sym (one-more F board-lawful slots q ks k m)) h)
 
     asks : Done F slots q m (whole F slots q m)
@@ -168,7 +168,7 @@ module _ (f : Frame) (slots : List ℕ) (slot start size : ℕ) (permission : Pe
         (demand2 F board-lawful slots q m n typed accepted (omega arith))
 
     -- wherever the last of the calls ended
-    consistent : (es : List Ending) (n : List ℕ) → After f slots slot start size permission es m n → CrashConsistent f slots slot start size permission m n
+    consistent : (es : List Ending) (n : List ℕ) → Reaches f slots slot start size permission es m n → CrashConsistent f slots slot start size permission m n
     unfolding calls
     consistent es n h =
         let cut : (js : List ℕ) × (n ≡ calls F slots q js m) = cuts es [] n h in
@@ -198,7 +198,7 @@ module _ (f : Frame) (slots : List ℕ) (slot start size : ℕ) (permission : Pe
         }
 
   -- whatever is asked, and however each of the calls ended: nothing is asked of the next one, which may never be made
-  pub recovers : (es : List Ending) (n : List ℕ) → After f slots slot start size permission es m n → Recovers f slots slot start size permission m n
+  pub recovers : (es : List Ending) (n : List ℕ) → Reaches f slots slot start size permission es m n → Recovers f slots slot start size permission m n
   recovers es n h =
       split (eqb (editRefusal F m slots q) 0)
       (λ y. let a : Accepted F slots q m = eqb-true _ _ y in inl (a, consistent a es n h))
@@ -206,7 +206,7 @@ module _ (f : Frame) (slots : List ℕ) (slot start size : ℕ) (permission : Pe
 
   -- a first call was accepted, with whatever limit; calls were made and cut, as many as may be; then the next one
   pub promise : (limit : ℕ) (r : Outcome) (m′ : List ℕ) (count : ℕ) (all : Bool) → Call f slots slot start size permission limit m r m′ → r .reply ≡ Edited count all
-      → (es : List Ending) (n : List ℕ) → After f slots slot start size permission es m n
+      → (es : List Ending) (n : List ℕ) → Reaches f slots slot start size permission es m n
       → (more : ℕ) (answer : Outcome) (n′ : List ℕ) → Call f slots slot start size permission more n answer n′
       → Kept f slots slot start size permission m answer n′
   unfolding calls

@@ -38,10 +38,10 @@ module _ (f : Frame) (slots : List ℕ) (slot start size : ℕ) (permission : Pe
   interrupted k m = if eqb (editRefusal (frameOf f m) m slots request) 0 then stopped (frameOf f m) slots request k m else m
 
   -- calls one after another, each with a limit of its own, from the memory m to the memory m′
-  unfoldable pub After : List Ending → List ℕ → List ℕ → Type 0
-  After [] m m′ = m ≡ m′
-  After (returned limit r m₁ ∷ es) m m′ = Call limit m r m₁ × After es m₁ m′
-  After (reset k ∷ es) m m′ = After es (interrupted k m) m′
+  unfoldable pub Reaches : List Ending → List ℕ → List ℕ → Type 0
+  Reaches [] m m′ = m ≡ m′
+  Reaches (returned limit r m₁ ∷ es) m m′ = Call limit m r m₁ × Reaches es m₁ m′
+  Reaches (reset k ∷ es) m m′ = Reaches es (interrupted k m) m′
 
   -- crash consistency: what holds of the memory m′ wherever the last of the calls ended, right after a reset as after a return, before any
   -- other call is made; m is the memory that the first call found, and the edit is accepted there

@@ -10,16 +10,16 @@ ghost use Rattle.types.specs.Views.{requestOf};
 ghost use Rattle.types.specs.Range.{Fair};
 
 // The bytes that an L1 entry speaks for.
-const ENTRY_BYTES: u64 = FIELDS * PAGE_BYTES;
+const ENTRY_SPAN: u64 = FIELDS * PAGE_BYTES;
 
-const ENTRY_LAST: u64 = FIELDS * PAGE_BYTES - 1;
+const ENTRY_ROUND_UP: u64 = FIELDS * PAGE_BYTES - 1;
 
 // The first L1 entry of block b that the range can meet: no page of an entry below it lies in the range.
 pub fn first_entry(q: Request, b: u64) -> u64
     requires { ⌜ (b < BLOCKS) × Fair q ⌝ }
     ensures { λ r. ⌜ (r ≤ WORDS) × Below (requestOf q) b r ⌝ }
 {
-    let low = q.start.0 / ENTRY_BYTES;
+    let low = q.start.0 / ENTRY_SPAN;
     let base = b * PAGE_WORDS as u64;
     if low <= base {
         return 0;
@@ -35,7 +35,7 @@ pub fn past_entry(q: Request, b: u64) -> u64
     requires { ⌜ (b < BLOCKS) × Fair q ⌝ }
     ensures { λ r. ⌜ (r ≤ WORDS) × Past (requestOf q) b r ⌝ }
 {
-    let high = (q.start.0 + q.size + ENTRY_LAST) / ENTRY_BYTES;
+    let high = (q.start.0 + q.size + ENTRY_ROUND_UP) / ENTRY_SPAN;
     let base = b * PAGE_WORDS as u64;
     if high <= base {
         return 0;

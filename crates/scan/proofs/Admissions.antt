@@ -17,7 +17,7 @@ use Rattle.types.specs.declared.Refusal.the-variants as refusal
 use Rattle.types.specs.Views.{refusalNumber}
 use Rattle.laws.proofs.Frames.{framed, bounds}
 use Rattle.scan.specs.Scan.{marksOf}
-use Rattle.scan.specs.Admission.{admissionOf, Admits, Admitted}
+use Rattle.scan.specs.Admission.{admissionOf, AdmissionIs, Admitted}
 use Rattle.scan.proofs.Laws.{clear-is-free}
 
 -- the number that stands for an admission: 0 where it is granted
@@ -67,7 +67,7 @@ not-admitted F m slots r rest done n h e =
     ap (λ (k : ℕ). if eqb k 0 then done else refuse F m slots k) z ∙ ap (λ (b : Bool). if b then done else refuse F m slots (refusalNumber r)) (ne-eqb _ _ (some-number r))
 
 -- and one that passes them
-pub admitted : (F : Frame) (m : List ℕ) (slots : List Slot) (r : Admission) (marks : List Bool) → F .layout .maxPages ≤ 256 → Admits F m slots r marks → r ≡ Granted → Admitted F m slots marks
+pub admitted : (F : Frame) (m : List ℕ) (slots : List Slot) (r : Admission) (marks : List Bool) → F .layout .maxPages ≤ 256 → AdmissionIs F m slots r marks → r ≡ Granted → Admitted F m slots marks
 unfolding admissionOf
 admitted F m slots r marks few h granted =
     let passed = both-passed (frameOk F m) (sound F m slots) (sym granted ∙ h .answer) in

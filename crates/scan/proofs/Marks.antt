@@ -12,30 +12,30 @@ use Rattle.model.specs.Numbers.{if_then_else_, every, joined, each, member, dis
 use Rattle.laws.proofs.Choices.{and-true, and-assoc}
 use Rattle.laws.proofs.Every.{every-step}
 use Rattle.laws.proofs.Lists.{each-step, member-step, distinct-step}
-use Rattle.scan.specs.Scan.{Scan, unsound, marked, andThen, scanAll, scanRun, markOf}
+use Rattle.scan.specs.Scan.{Scan, unsound, marked, thenScan, scanAll, scanRun, markOf}
 
 -- marks set one after the other, each of them not set before
 unfoldable pub claimAll : List Bool → List ℕ → Scan
 claimAll k [] = marked k
-claimAll k (i ∷ is) = andThen (markOf k i) (λ j. claimAll j is)
+claimAll k (i ∷ is) = thenScan (markOf k i) (λ j. claimAll j is)
 
-pub then-unsound : (s : Scan) → andThen s (λ o. unsound) ≡ unsound
+pub then-unsound : (s : Scan) → thenScan s (λ o. unsound) ≡ unsound
 then-unsound unsound = refl
 then-unsound (marked k) = refl
 
-pub then-marked : (s : Scan) → andThen s marked ≡ s
+pub then-marked : (s : Scan) → thenScan s marked ≡ s
 then-marked unsound = refl
 then-marked (marked k) = refl
 
-then-then : (s : Scan) (g h : List Bool → Scan) → andThen s (λ o. andThen (g o) h) ≡ andThen (andThen s g) h
+then-then : (s : Scan) (g h : List Bool → Scan) → thenScan s (λ o. thenScan (g o) h) ≡ thenScan (thenScan s g) h
 then-then unsound g h = refl
 then-then (marked k) g h = refl
 
-pub then-same : (s : Scan) (g h : List Bool → Scan) → ((o : List Bool) → g o ≡ h o) → andThen s g ≡ andThen s h
+pub then-same : (s : Scan) (g h : List Bool → Scan) → ((o : List Bool) → g o ≡ h o) → thenScan s g ≡ thenScan s h
 then-same unsound g h e = refl
 then-same (marked k) g h e = e k
 
-claim-append : (is js : List ℕ) (k : List Bool) → claimAll k (is ++ js) ≡ andThen (claimAll k is) (λ o. claimAll o js)
+claim-append : (is js : List ℕ) (k : List Bool) → claimAll k (is ++ js) ≡ thenScan (claimAll k is) (λ o. claimAll o js)
 unfolding claimAll
 claim-append [] js k = refl
 claim-append (i ∷ is) js k =
@@ -53,13 +53,13 @@ module _ (step : List Bool → ℕ → Scan) (guard : ℕ → Bool) (places : �
   -- one step, and a rest of which this is known
   one-more : (k : List Bool) (x : ℕ) (rest : List Bool → Scan) (c : Bool) (is : List ℕ)
       → ((o : List Bool) → rest o ≡ (if c then claimAll o is else unsound))
-      → andThen (step k x) rest ≡ (if guard x && c then claimAll k (places x ++ is) else unsound)
+      → thenScan (step k x) rest ≡ (if guard x && c then claimAll k (places x ++ is) else unsound)
   one-more k x rest c is known =
       then-same (step k x) _ _ known
-      ∙ ap (λ (s : Scan). andThen s (λ o. if c then claimAll o is else unsound)) (law k x)
+      ∙ ap (λ (s : Scan). thenScan s (λ o. if c then claimAll o is else unsound)) (law k x)
       ∙ go (guard x) c
     where
-      go : (b c : Bool) → andThen (if b then claimAll k (places x) else unsound) (λ o. if c then claimAll o is else unsound)
+      go : (b c : Bool) → thenScan (if b then claimAll k (places x) else unsound) (λ o. if c then claimAll o is else unsound)
           ≡ (if b && c then claimAll k (places x ++ is) else unsound)
       go false c = refl
       go true true = sym (claim-append (places x) is k)
@@ -135,7 +135,7 @@ module _ (n : ℕ) where
 
       go : claimAll (set k i true) is ≡ (if each (fresh (set k i true)) is && distinct is then marked (setAll (set k i true) is) else unsound)
           → (t : Bool) → getD k i false ≡ t
-          → andThen (if t then unsound else marked (set k i true)) (λ j. claimAll j is)
+          → thenScan (if t then unsound else marked (set k i true)) (λ j. claimAll j is)
           ≡ (if (not t && each (fresh k) is) && (not (member i is) && distinct is) then marked (setAll (set k i true) is) else unsound)
       go known true e = refl
       go known false e =

@@ -17,7 +17,7 @@ use Rattle.model.specs.Walk.{rootPages, entryAt}
 use Rattle.model.specs.Sound.{Slot, register, isOpen, openRegisters, linkOf, roots, sdids, linksIn, used, cleanPage, soundEntry, soundRegister, soundRoot, soundSlots, soundTable}
 use Rattle.laws.proofs.Lists.{each-step}
 use Rattle.laws.proofs.Frames.{bounds}
-use Rattle.scan.specs.Scan.{Scan, unsound, marked, answer, andThen, scanAll, markOf, registerStep, claimOf, marksOf, linkStep, entryStep, blockStep, rootStep, slotStep}
+use Rattle.scan.specs.Scan.{Scan, unsound, marked, answer, thenScan, scanAll, markOf, registerStep, claimOf, marksOf, linkStep, entryStep, blockStep, rootStep, slotStep}
 use Rattle.scan.proofs.Marks.{claimAll, then-unsound, then-marked, then-same, spread, all-claims, run-claims, setAll, claims}
 use Rattle.scan.proofs.Pages.{place, used-lent, place-distinct, marks-at-places, places-low}
 
@@ -28,10 +28,10 @@ unfolding scanAll openRegisters
 pass-opened step inner law [] k = refl
 pass-opened step inner law (s ∷ ss) k =
     then-same (step k s) _ _ (λ o. pass-opened step inner law ss o)
-    ∙ ap (λ (x : Scan). andThen x (λ o. scanAll inner o (openRegisters ss))) (law k s)
+    ∙ ap (λ (x : Scan). thenScan x (λ o. scanAll inner o (openRegisters ss))) (law k s)
     ∙ go (isOpen s)
   where
-    go : (t : Bool) → andThen (if t then inner k (register s) else marked k) (λ o. scanAll inner o (openRegisters ss))
+    go : (t : Bool) → thenScan (if t then inner k (register s) else marked k) (λ o. scanAll inner o (openRegisters ss))
         ≡ scanAll inner k (if t then register s ∷ openRegisters ss else openRegisters ss)
     go true = refl
     go false = refl
@@ -102,7 +102,7 @@ module _ (F : Frame) (m : List ℕ) where
   entry-law k invalid = refl
   entry-law k (table page) = go (lent F page) (cleanPage F m page) (markOf k (place F page))
     where
-      go : (a b : Bool) (s : Scan) → andThen (if a then s else unsound) (answer b) ≡ (if a && b then andThen s marked else unsound)
+      go : (a b : Bool) (s : Scan) → thenScan (if a then s else unsound) (answer b) ≡ (if a && b then thenScan s marked else unsound)
       go true true s = refl
       go true false s = then-unsound s
       go false b s = refl
@@ -130,8 +130,8 @@ module _ (F : Frame) (m : List ℕ) where
       links : List ℕ
       links = map (place F) (joined (λ b. linkOf (entryAt F m root b)) (blocks F) 0)
 
-      go : (a b : Bool) → andThen (if a then markOf k (place F root) else unsound) (λ o. if b then claimAll o links else unsound)
-          ≡ (if (elim a as (λ x. Bool) [ true ↦ true | false ↦ false ]) && b then andThen (markOf k (place F root)) (λ o. claimAll o links) else unsound)
+      go : (a b : Bool) → thenScan (if a then markOf k (place F root) else unsound) (λ o. if b then claimAll o links else unsound)
+          ≡ (if (elim a as (λ x. Bool) [ true ↦ true | false ↦ false ]) && b then thenScan (markOf k (place F root)) (λ o. claimAll o links) else unsound)
       go true true = refl
       go true false = then-unsound (markOf k (place F root))
       go false b = refl

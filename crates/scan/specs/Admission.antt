@@ -18,7 +18,7 @@ module _ (F : Frame) (m : List ℕ) (slots : List Slot) where
   admissionOf = if frameOk F m then (if sound F m slots then Granted else Refused refusal.NotSound) else Refused refusal.Frame
 
   -- what is answered, and if no refusal fits, the marks of the pages in use
-  pub record Admits (r : Admission) (marks : List Bool) : Type 0 where
+  pub record AdmissionIs (r : Admission) (marks : List Bool) : Type 0 where
     pub answer : r ≡ admissionOf
     pub marked : r ≡ Granted → marks ≡ marksOf F (used F m (roots F slots))
 

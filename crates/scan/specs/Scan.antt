@@ -22,18 +22,18 @@ abbrev pub answer : Bool → List Bool → Scan
 answer true marks = marked marks
 answer false marks = unsound
 
-abbrev pub andThen : Scan → (List Bool → Scan) → Scan
-andThen unsound next = unsound
-andThen (marked marks) next = next marks
+abbrev pub thenScan : Scan → (List Bool → Scan) → Scan
+thenScan unsound next = unsound
+thenScan (marked marks) next = next marks
 
 -- one step for each member of a list, and for each of the n numbers from s
 unfoldable pub scanAll : (List Bool → ℕ → Scan) → List Bool → List ℕ → Scan
 scanAll step marks [] = marked marks
-scanAll step marks (x ∷ xs) = andThen (step marks x) (λ after. scanAll step after xs)
+scanAll step marks (x ∷ xs) = thenScan (step marks x) (λ after. scanAll step after xs)
 
 unfoldable pub scanRun : (List Bool → ℕ → Scan) → List Bool → ℕ → ℕ → Scan
 scanRun step marks zero s = marked marks
-scanRun step marks (suc n) s = andThen (step marks s) (λ after. scanRun step after n (suc s))
+scanRun step marks (suc n) s = thenScan (step marks s) (λ after. scanRun step after n (suc s))
 
 -- a mark is set that was not
 unfoldable pub markOf : List Bool → ℕ → Scan
@@ -64,7 +64,7 @@ module _ (F : Frame) where
   module _ (m : List ℕ) where
     -- the page that a TYPE 4 entry names
     unfoldable pub linkStep : List Bool → ℕ → Scan
-    linkStep marks page = andThen (claimOf marks page) (answer (cleanPage F m page))
+    linkStep marks page = thenScan (claimOf marks page) (answer (cleanPage F m page))
 
     abbrev pub entryStep : List Bool → Entry → Scan
     entryStep marks (flat p) = marked marks
@@ -81,7 +81,7 @@ module _ (F : Frame) where
     blockStep root marks b = entryStep marks (entryAt F m root b)
 
     unfoldable pub rootStep : List Bool → ℕ → Scan
-    rootStep marks root = andThen (claimOf marks root) (λ after. scanRun (blockStep root) after (blocks F) 0)
+    rootStep marks root = thenScan (claimOf marks root) (λ after. scanRun (blockStep root) after (blocks F) 0)
 
     unfoldable pub slotStep : List Bool → Slot → Scan
     slotStep marks slot = if isOpen slot then rootStep marks (ppnOf (F .layout) (register slot)) else marked marks

@@ -26,10 +26,10 @@ use Rattle.theory.proofs.Accepts.{Accept, to-accept, range-of, root-in}
 use Rattle.theory.proofs.Frames.{Ok, blocks-pos}
 use Rattle.theory.proofs.Free.{free-in, free-once}
 use Rattle.theory.proofs.Ranges.{touched-inside}
-use Rattle.theory.proofs.Steps.{root-lent as page-lent}
+use Rattle.theory.proofs.OneStore.{root-lent as page-lent}
 use Rattle.theory.proofs.Tables.{Sound}
 use Rattle.theory.proofs.Used.{pagesOf, links, used-measure}
-use Rattle.theory.proofs.WholeCall.{Edit, ok-of, sound-of, here-of}
+use Rattle.theory.proofs.WholeCall.{EditCall, ok-of, sound-of, here-of}
 use Rattle.forms.proofs.BoardShape.{board-shape}
 use Rattle.shapes.proofs.BlockLaws as blocks
 use Rattle.types.specs.declared.Frame as code
@@ -73,7 +73,7 @@ module _ (f : code.Frame) (m0 : List ℕ) (q : Request) (root : ℕ) (free : Lis
   pub accepted-list : (a : Prepared F m0 q root free) → wholeList F m0 q root free ≡ storeList F m0 (a .slots) q
   accepted-list a =
       let k : Accept F (a .slots) q m0 = to-accept F (a .slots) q m0 (a .none) in
-      let E : Edit = record { F = F; lawful = board-lawful; slots = a .slots; q = q; low = a .small } in
+      let E : EditCall = record { F = F; lawful = board-lawful; slots = a .slots; q = q; low = a .small } in
       ap₂ (λ (r : ℕ) (fr : List ℕ). wholeList F m0 q r fr) (a .isRoot) (a .areFree)
       ∙ list-is F m0 (a .slots) q
       (two-pages F (ok-of E m0 k) q m0 (rootOf F (a .slots) q) (a .small) (range-of F (a .slots) q m0 k) (roots F (a .slots)) (sound-of E m0 k) (root-in F (a .slots) q m0 k) (a .typed))
@@ -82,7 +82,7 @@ module _ (f : code.Frame) (m0 : List ℕ) (q : Request) (root : ℕ) (free : Lis
   unfolding freePages space
   facts a =
       let k : Accept F (a .slots) q m0 = to-accept F (a .slots) q m0 (a .none) in
-      let E : Edit = record { F = F; lawful = board-lawful; slots = a .slots; q = q; low = a .small } in
+      let E : EditCall = record { F = F; lawful = board-lawful; slots = a .slots; q = q; low = a .small } in
       let rs : List ℕ = roots F (a .slots) in
       let taken : List ℕ = used F m0 rs in
       let ok : Ok F = ok-of E m0 k in

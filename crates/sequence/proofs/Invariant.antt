@@ -33,7 +33,7 @@ use Rattle.theory.proofs.Finds.{after-outside, after-inside}
 use Rattle.theory.proofs.Forms.{forms-fit, forms-all, forms-length, same-form, same-gib, same-first}
 use Rattle.theory.proofs.Frames.{lent-ppn}
 use Rattle.theory.proofs.OneCall.{At, spot, next as at-next, at-start}
-use Rattle.theory.proofs.Plans.{AllAt, FitsAll, Call}
+use Rattle.theory.proofs.Plans.{AllAt, FitsAll, PlannedCall}
 use Rattle.laws.proofs.Fronts.{drop-tail}
 use Rattle.entries.proofs.Places.{frame-same}
 use Rattle.sequence.proofs.Facts.{Facts}
@@ -60,7 +60,7 @@ module _ {f : code.Frame} {m0 : List ℕ} {q : Request} {root : ℕ} {free : Lis
   within = omega (arith, fs-length, k .inside)
 
   -- the call, as the theory sees it
-  abbrev callHere : Call
+  abbrev callHere : PlannedCall
   callHere = record { F = G₀; ok = k .ok; rs = k .rs; ro = root; here = k .here; q = q; low = k .low; m0 = m0; b0 = B₀; fs = fs₀; inside = within }
 
   abbrev Here : List ℕ → ℕ → List Form → List ℕ → Type 0

@@ -22,7 +22,7 @@ ghost use Rattle.model.specs.Entry as entry;
 ghost use Rattle.model.specs.Frame.{boundsOk};
 ghost use Rattle.table.specs.Board.{board, frameOver, frameOf};
 ghost use Rattle.types.specs.Views.{entryOf};
-ghost use Rattle.scan.specs.Admission.{Admits};
+ghost use Rattle.scan.specs.Admission.{AdmissionIs};
 ghost use Rattle.scan.specs.Scan.{answer, scanAll, scanRun, claimOf, linkStep, entryStep, wordStep, rootStep, slotStep, registerStep};
 
 // "all reserved bits in it are zero": the words are gathered by `|` and tested once.
@@ -173,7 +173,7 @@ fn no_sdids() -> [bool; 64]
 // their tables. If neither fits, used has a mark for each page in use.
 pub fn admit(f: Frame, words: &[Word], slots: [Word; 8], used: &mut [bool; 256]) -> Admission
     requires { ⌜ now used ≡ replicate 256 false ⌝ }
-    ensures { λ r. ⌜ Admits (frameOf f (now (words .entry))) (now (words .entry)) slots r (now (used .exit)) ⌝ }
+    ensures { λ r. ⌜ AdmissionIs (frameOf f (now (words .entry))) (now (words .entry)) slots r (now (used .exit)) ⌝ }
 {
     if !lent::frame_ok(f, words) {
         return Admission::Refused(Refusal::Frame);

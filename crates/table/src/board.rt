@@ -23,7 +23,7 @@ pub const PIECE_WORDS: u64 = PAGE_WORDS as u64 / PIECES;
 
 pub const PIECE_BYTES: u64 = PIECE_PAGES * 4096;
 
-pub const PIECE_LAST: u64 = PIECE_PAGES - 1;
+pub const PIECE_ROUND_UP: u64 = PIECE_PAGES - 1;
 
 pub const PIECE_TYPE: u64 = 6;
 

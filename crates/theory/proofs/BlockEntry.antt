@@ -21,7 +21,7 @@ use Rattle.theory.proofs.Tables.{Sound, link-in, link-not-root, table-o
 use Rattle.theory.proofs.Walks.{change-times, entry-lent, found-same, walk-in}
 use Rattle.theory.proofs.Along.{Along, along-l2, along-none, apply-l2, apply-none}
 use Rattle.theory.proofs.Plans.{Plan, Spot, Step, need, spot-inside, step-refl}
-use Rattle.theory.proofs.Steps.{l2-entry, l2-other, l2-others, l2-page, putL2, root-lent, step-l2}
+use Rattle.theory.proofs.OneStore.{l2-entry, l2-other, l2-others, l2-page, putL2, root-lent, step-l2}
 
 module _ (P : Plan) (B : Spot P) where
   open Plan P using (F, ok, rs, ro, here, A, small)

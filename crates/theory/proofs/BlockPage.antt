@@ -30,7 +30,7 @@ use Rattle.theory.proofs.Walks.{SameEntries, change-times, entry-word, 
 use Rattle.theory.proofs.Finds.{wanted, wanted-clean, wanted-field, wanted-small}
 use Rattle.theory.proofs.Along.{Along, along-append, along-l2, along-none, along-one, apply-append, apply-l2, apply-none, apply-one}
 use Rattle.theory.proofs.Plans.{Plan, Spot, Step, need, spot-inside, step-refl, step-trans}
-use Rattle.theory.proofs.Steps.{l2-entry, l2-other, l2-others, l2-page, putL2, root-lent, step-free, step-l1, step-l2}
+use Rattle.theory.proofs.OneStore.{l2-entry, l2-other, l2-others, l2-page, putL2, root-lent, step-free, step-l1, step-l2}
 use Rattle.theory.proofs.BlockEntry.{End}
 
 table-passes : (t : ℕ) → passes (table t) ≡ true

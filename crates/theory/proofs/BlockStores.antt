@@ -19,7 +19,7 @@ use Rattle.theory.proofs.Tables.{Sound}
 use Rattle.theory.proofs.Walks.{entry-word}
 use Rattle.theory.proofs.Finds.{l1-wanted, wanted}
 use Rattle.theory.proofs.Along.{Along}
-use Rattle.theory.proofs.Plans.{Call, Fits, Spot, Step, need, planOf}
+use Rattle.theory.proofs.Plans.{PlannedCall, Fits, Spot, Step, need, planOf}
 use Rattle.theory.proofs.BlockEntry.{End, entry-block}
 use Rattle.theory.proofs.BlockPage.{new-block, same-block}
 
@@ -43,7 +43,7 @@ pieces-found F m i n = refl
 
 -- ---- a block that the stores have not reached: memory m has it as m0 has, and page p is free if the block needs one
 
-pub record Ready (C : Call) (B : Spot (planOf C)) (m : List ℕ) (p : ℕ) : Type 0 where
+pub record Ready (C : PlannedCall) (B : Spot (planOf C)) (m : List ℕ) (p : ℕ) : Type 0 where
   pub fit : Fits (C .F) (planOf C .A) (B .b) (B .f)
   pub sound : Sound (C .F) (C .rs) m
   pub same : l2Word (C .F) m (C .ro) (B .b) ≡ l2Word (C .F) (C .m0) (C .ro) (B .b)
@@ -52,8 +52,8 @@ pub record Ready (C : Call) (B : Spot (planOf C)) (m : List ℕ) (p : ℕ) : Typ
       needsPage (B .f) (entryAt (C .F) (C .m0) (C .ro) (B .b)) ≡ true
       → (lent (C .F) p ≡ true) × (times p (pagesOf (C .F) (C .rs)) + times p (links (C .F) m (C .rs)) ≡ 0)
 
-module _ (C : Call) (B : Spot (planOf C)) (m : List ℕ) (p : ℕ) (k : Ready C B m p) where
-  open Call C using (F, rs, ro, q, m0)
+module _ (C : PlannedCall) (B : Spot (planOf C)) (m : List ℕ) (p : ℕ) (k : Ready C B m p) where
+  open PlannedCall C using (F, rs, ro, q, m0)
   open Spot B using (b, f)
 
   abbrev A : ℕ → ℕ

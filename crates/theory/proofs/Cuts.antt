@@ -24,10 +24,10 @@ use Rattle.theory.proofs.Plans.{planOf, step-refl, step-trans}
 use Rattle.theory.proofs.OneCall.{past}
 use Rattle.theory.proofs.Domains.{domain-root, same-read}
 use Rattle.theory.proofs.Accepts.{Accept}
-use Rattle.theory.proofs.WholeCall.{Edit, Rel, accept-kept, after-kept, callOf, cut, firstIn, forms-kept, rootIn, rootsIn, sound-of, whole-others, whole-reads}
+use Rattle.theory.proofs.WholeCall.{EditCall, Rel, accept-kept, after-kept, callOf, cut, firstIn, forms-kept, rootIn, rootsIn, sound-of, whole-others, whole-reads}
 
-module _ (E : Edit) (m : List ℕ) (k : Accept (E .F) (E .slots) (E .q) m) where
-  open Edit E using (F, lawful, slots, q, low)
+module _ (E : EditCall) (m : List ℕ) (k : Accept (E .F) (E .slots) (E .q) m) where
+  open EditCall E using (F, lawful, slots, q, low)
 
   abbrev R : ℕ
   R = rootIn E

@@ -20,10 +20,10 @@ use Rattle.theory.proofs.Used.{links}
 use Rattle.theory.proofs.Walks.{same-measure}
 use Rattle.theory.proofs.Free.{sound-free}
 use Rattle.theory.proofs.Accepts.{Accept}
-use Rattle.theory.proofs.WholeCall.{Edit, Rel, accept-kept, firstIn, forms-kept, rootIn, rootsIn, whole-form, whole-step}
+use Rattle.theory.proofs.WholeCall.{EditCall, Rel, accept-kept, firstIn, forms-kept, rootIn, rootsIn, whole-form, whole-step}
 
-module _ (E : Edit) (m : List ℕ) (k : Accept (E .F) (E .slots) (E .q) m) (m′ : List ℕ) (t : Rel E m k m′) where
-  open Edit E using (F, lawful, slots, q, low)
+module _ (E : EditCall) (m : List ℕ) (k : Accept (E .F) (E .slots) (E .q) m) (m′ : List ℕ) (t : Rel E m k m′) where
+  open EditCall E using (F, lawful, slots, q, low)
 
   abbrev R : ℕ
   R = rootIn E

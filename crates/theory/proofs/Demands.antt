@@ -17,7 +17,7 @@ use Rattle.model.specs.Demands.{Accepted, Demand2, Demand3, Done, Typed, calls,
 use Rattle.theory.proofs.Entries.{Lawful, rv32-lawful, rv64-lawful}
 use Rattle.theory.proofs.Frames.{blocks-words, blocks-few}
 use Rattle.theory.proofs.Accepts.{Accept, from-accept, range-of, root-in, to-accept}
-use Rattle.theory.proofs.WholeCall.{Edit, Rel, accept-kept, ok-of}
+use Rattle.theory.proofs.WholeCall.{EditCall, Rel, accept-kept, ok-of}
 use Rattle.theory.proofs.Cuts.{calls-kept, same-of, steady-of, unstarted}
 use Rattle.theory.proofs.CutsFree.{free-of}
 use Rattle.theory.proofs.Finished.{whole-done}
@@ -29,7 +29,7 @@ module _ (F : Frame) (lawful : Lawful (F .layout)) (slots : List Slot) (q : Requ
   pub demand3 : Demand3 F slots q
   unfolding storeList storeListWith finished
   demand3 m typed accepted ks =
-      let E : Edit = record { F = F; lawful = lawful; slots = slots; q = q; low = typed .permission } in
+      let E : EditCall = record { F = F; lawful = lawful; slots = slots; q = q; low = typed .permission } in
       let k : Accept F slots q m = to-accept F slots q m accepted in
       let m′ : List ℕ = calls F slots q ks m in
       let t : Rel E m k m′ = calls-kept E m k ks m (unstarted E m k) in
@@ -63,14 +63,14 @@ module _ (F : Frame) (lawful : Lawful (F .layout)) (slots : List Slot) (q : Requ
 
   pub demand2 : Demand2 F slots q
   demand2 m limit typed accepted all =
-      let E : Edit = record { F = F; lawful = lawful; slots = slots; q = q; low = typed .permission } in
+      let E : EditCall = record { F = F; lawful = lawful; slots = slots; q = q; low = typed .permission } in
       subst (Done F slots q m) (sym (edit-whole m limit accepted all)) (whole-done E m (to-accept F slots q m accepted))
 
   -- no call takes more stores than this, whatever the cuts before it
   pub most-stores : (m : List ℕ) → Typed F q m → Accepted F slots q m → (ks : List ℕ)
       → length (storeList F (calls F slots q ks m) slots q) ≤ 2 ^ (F .layout .maxPaw - 25) - 2 + 2 * suc (F .layout .words)
   most-stores m typed accepted ks =
-      let E : Edit = record { F = F; lawful = lawful; slots = slots; q = q; low = typed .permission } in
+      let E : EditCall = record { F = F; lawful = lawful; slots = slots; q = q; low = typed .permission } in
       omega (arith, demand3 m typed accepted ks .fewStores, blocks-few F (ok-of E m (to-accept F slots q m accepted)))
 
 -- ---- the two boards
@@ -98,5 +98,5 @@ module _ (paw first pages : ℕ) (slots : List Slot) (q : Request) where
   -- before it
   pub rv64-most : (m : List ℕ) → Typed board64 q m → Accepted board64 slots q m → (ks : List ℕ) → length (storeList board64 (calls board64 slots q ks m) slots q) ≤ 1536
   rv64-most m typed accepted ks =
-      let E : Edit = record { F = board64; lawful = rv64-lawful; slots = slots; q = q; low = typed .permission } in
+      let E : EditCall = record { F = board64; lawful = rv64-lawful; slots = slots; q = q; low = typed .permission } in
       omega (arith, rv64-demand3 m typed accepted ks .fewStores, blocks-words board64 (ok-of E m (to-accept board64 slots q m accepted)))

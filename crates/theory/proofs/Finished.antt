@@ -23,10 +23,10 @@ use Rattle.theory.proofs.Finds.{after-inside, after-outside}
 use Rattle.theory.proofs.Ranges.{address-inside, address-outside, address-space}
 use Rattle.theory.proofs.Domains.{domain-root, domains-apart, same-read}
 use Rattle.theory.proofs.Accepts.{Accept, own-domain, range-of, root-in}
-use Rattle.theory.proofs.WholeCall.{Edit, here-of, ok-of, sound-of, whole-form, whole-others, whole-reads, whole-step}
+use Rattle.theory.proofs.WholeCall.{EditCall, here-of, ok-of, sound-of, whole-form, whole-others, whole-reads, whole-step}
 
-module _ (E : Edit) (m : List ℕ) (k : Accept (E .F) (E .slots) (E .q) m) where
-  open Edit E using (F, slots, q, low)
+module _ (E : EditCall) (m : List ℕ) (k : Accept (E .F) (E .slots) (E .q) m) where
+  open EditCall E using (F, slots, q, low)
 
   abbrev W : List ℕ
   W = whole F slots q m

@@ -13,7 +13,7 @@
 -- One call
 --   Along        a list of stores: what holds before, between and after them
 --   Plans        the plan of a call, and what a store of it keeps
---   Steps        one store: into a free page, into an L1 page, into a root
+--   OneStore     one store: into a free page, into an L1 page, into a root
 --   BlockEntry   a block that is to hold permissions
 --   BlockPage    a block that is to have an L1 page
 --   BlockStores  the stores of one block
@@ -50,7 +50,7 @@ pub mod Walks
 pub mod Finds
 pub mod Along
 pub mod Plans
-pub mod Steps
+pub mod OneStore
 pub mod BlockEntry
 pub mod BlockPage
 pub mod BlockStores

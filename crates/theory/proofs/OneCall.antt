@@ -25,11 +25,11 @@ use Rattle.theory.proofs.Used.{links, pagesOf}
 use Rattle.theory.proofs.Tables.{Sound}
 use Rattle.theory.proofs.Walks.{entry-word}
 use Rattle.theory.proofs.Along.{Along, along-append, along-map, along-none, apply-append, apply-none}
-use Rattle.theory.proofs.Plans.{Call, Fits, FitsAll, Spot, Step, planOf, spot-inside, step-refl, step-trans, step-widen}
+use Rattle.theory.proofs.Plans.{PlannedCall, Fits, FitsAll, Spot, Step, planOf, spot-inside, step-refl, step-trans, step-widen}
 use Rattle.theory.proofs.BlockStores.{Ready, Result, block}
 
-module _ (C : Call) where
-  open Call C using (F, ok, rs, ro, here, q, m0, b0, fs, inside)
+module _ (C : PlannedCall) where
+  open PlannedCall C using (F, ok, rs, ro, here, q, m0, b0, fs, inside)
 
   abbrev A : ℕ → ℕ
   A = planOf C .A

@@ -22,7 +22,7 @@ use Rattle.theory.proofs.Frames.{Ok, blocks-words, pn1-lt, pn2-lt}
 use Rattle.theory.proofs.Roots.{page-of, place-lt}
 use Rattle.theory.proofs.Tables.{Sound, link-in}
 use Rattle.theory.proofs.Walks.{SameEntries, entry-lent, entry-word, outside-space, same-times, walk-in, walk-same}
-use Rattle.theory.proofs.Steps.{root-lent}
+use Rattle.theory.proofs.OneStore.{root-lent}
 use Rattle.theory.proofs.Zeroed.{zero-here, zero-length, zero-other-page, zeroFrom}
 
 -- rs′ is rs with one root more, wherever it stands

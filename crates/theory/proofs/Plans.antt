@@ -63,7 +63,7 @@ pub spot-inside : (P : Plan) (s : Spot P) → s .b < blocks (P .F)
 spot-inside P s = omega (arith, P .inside, s .at, ap length (s .parts) ∙ length-append (s .pre) (s .f ∷ s .post))
 
 -- A call that finds memory m0 and is asked q: its pages are to end with the permissions after the edit
-pub record Call : Type 0 where
+pub record PlannedCall : Type 0 where
   pub F : Frame
   pub ok : Ok F
   pub rs : List ℕ
@@ -76,7 +76,7 @@ pub record Call : Type 0 where
   pub fs : List Form
   pub inside : b0 + length fs ≤ blocks F
 
-abbrev pub planOf : Call → Plan
+abbrev pub planOf : PlannedCall → Plan
 planOf C =
     record {
       F = C .F;

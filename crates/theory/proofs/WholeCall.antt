@@ -28,7 +28,7 @@ use Rattle.theory.proofs.Roots.{root-once}
 use Rattle.theory.proofs.Tables.{Sound, from-sound, to-sound}
 use Rattle.theory.proofs.Finds.{after-inside, after-outside}
 use Rattle.theory.proofs.Along.{Along, along-end, along-take}
-use Rattle.theory.proofs.Plans.{Call}
+use Rattle.theory.proofs.Plans.{PlannedCall}
 use Rattle.theory.proofs.OneCall.{Behind, So, one-call, past}
 use Rattle.theory.proofs.Forms.{forms-fit, forms-length, forms-same}
 use Rattle.theory.proofs.Free.{free-in, free-once, sound-free}
@@ -36,7 +36,7 @@ use Rattle.theory.proofs.Ranges.{range-touched, touched-inside}
 use Rattle.theory.proofs.Accepts.{Accept, range-of, root-in}
 
 -- An edit that is asked, on a lawful layout: what all its calls share
-pub record Edit : Type 0 where
+pub record EditCall : Type 0 where
   pub F : Frame
   pub lawful : Lawful (F .layout)
   pub slots : List Slot
@@ -44,17 +44,17 @@ pub record Edit : Type 0 where
   pub low : q .permission < 4
 
 -- its root, the roots of all domains, and the first touched block
-abbrev pub rootIn : Edit → ℕ
+abbrev pub rootIn : EditCall → ℕ
 rootIn E = rootOf (E .F) (E .slots) (E .q)
 
-abbrev pub rootsIn : Edit → List ℕ
+abbrev pub rootsIn : EditCall → List ℕ
 rootsIn E = roots (E .F) (E .slots)
 
-abbrev pub firstIn : Edit → ℕ
+abbrev pub firstIn : EditCall → ℕ
 firstIn E = firstGib (E .q) * gibBlocks
 
-module _ (E : Edit) (m : List ℕ) (k : Accept (E .F) (E .slots) (E .q) m) where
-  open Edit E using (F, lawful, slots, q, low)
+module _ (E : EditCall) (m : List ℕ) (k : Accept (E .F) (E .slots) (E .q) m) where
+  open EditCall E using (F, lawful, slots, q, low)
 
   abbrev R : ℕ
   R = rootIn E
@@ -78,7 +78,7 @@ module _ (E : Edit) (m : List ℕ) (k : Accept (E .F) (E .slots) (E .q) m) where
   inside-of = omega (arith, forms-length F ok-of q low R m, touched-inside F q (range-of F slots q m k) ok-of)
 
   -- the call that finds m
-  abbrev pub callOf : Call
+  abbrev pub callOf : PlannedCall
   callOf = record { F = F; ok = ok-of; rs = RS; ro = R; here = here-of; q = q; low = low; m0 = m; b0 = B; fs = forms F m q R; inside = inside-of }
 
   -- what holds from m to a memory that calls leave which were cut

@@ -44,10 +44,10 @@ permissionNumber Rx = 1
 permissionNumber Rw = 2
 permissionNumber Rwx = 3
 
-abbrev pub needOf : Need → access.Need
-needOf Read = access.read
-needOf Write = access.write
-needOf Execute = access.execute
+abbrev pub needView : Need → access.Need
+needView Read = access.read
+needView Write = access.write
+needView Execute = access.execute
 
 abbrev pub accessOf : Access → access.Access
 accessOf Fetch = access.fetch

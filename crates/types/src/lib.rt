@@ -1,6 +1,7 @@
 // The types of the monitor, the same on every board, and what is said of them alone.
 pub mod bits;
 pub mod blocks;
+pub mod code;
 pub mod number;
 pub mod pages;
 pub mod rights;
@@ -207,4 +208,22 @@ pub struct Free {
     pub count: u64,
     pub first: PageNumber,
     pub second: PageNumber,
+}
+
+// ---- codes
+
+// A privilege, a kind of access and a permission by their codes, if they name one.
+pub enum PrivilegeCode {
+    Known(Privilege),
+    Unknown,
+}
+
+pub enum KindCode {
+    Known(Kind),
+    Unknown,
+}
+
+pub enum PermissionCode {
+    Known(Permission),
+    Unknown,
 }

@@ -9,10 +9,10 @@ ghost use mathlib.Core.Path.{_≡_};
 ghost use Prim.Native.Nat.{_<_};
 ghost use Rattle.model.specs.Access as access;
 ghost use Rattle.model.specs.Lookup as lookup;
-ghost use Rattle.types.specs.Views.{permissionNumber, needOf, accessOf, kindOf, privilegeOf, causeNumber};
+ghost use Rattle.types.specs.Views.{permissionNumber, needView, accessOf, kindOf, privilegeOf, causeNumber};
 
 // "a small table of four permissions by three needs, kept as rows": none, rx, rw, rwx; read, write, execute.
-const MAY: [[bool; 3]; 4] = [
+const MAY_ROWS: [[bool; 3]; 4] = [
     [false, false, false],
     [true, false, true],
     [true, true, false],
@@ -51,7 +51,7 @@ fn row(p: Permission) -> usize
 }
 
 fn column(n: Need) -> usize
-    ensures { λ r. ⌜ (r ≡ access.columnOf (needOf n)) × (r < 3) ⌝ }
+    ensures { λ r. ⌜ (r ≡ access.columnOf (needView n)) × (r < 3) ⌝ }
 {
     match n {
         Need::Read => 0,
@@ -61,16 +61,16 @@ fn column(n: Need) -> usize
 }
 
 pub fn may(p: Permission, n: Need) -> bool
-    ensures { λ r. ⌜ r ≡ access.may (permissionNumber p) (needOf n) ⌝ }
+    ensures { λ r. ⌜ r ≡ access.may (permissionNumber p) (needView n) ⌝ }
 {
     let i = row(p);
     let j = column(n);
-    MAY[i][j]
+    MAY_ROWS[i][j]
 }
 
 // "A fetch needs execute, a load and a page-table read need read, a store and an A/D update need write."
 pub fn need_of(kind: Kind) -> Need
-    ensures { λ r. ⌜ needOf r ≡ access.needOf (kindOf kind) ⌝ }
+    ensures { λ r. ⌜ needView r ≡ access.needOf (kindOf kind) ⌝ }
 {
     match kind {
         Kind::Itself(a) => match a {

@@ -1,4 +1,4 @@
--- `api::done_word` meets its contract.
+-- `api::done_word` meets its contract: the word says nothing of the memory, so it is the answer for any.
 use borrow.Author.Needs.{needs}
 use Rattle.api.proofs.done_word.Statement.{statement}
 use Rattle.api.proofs.done_word.Tie as tie

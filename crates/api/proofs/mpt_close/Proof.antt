@@ -1,8 +1,8 @@
--- `api::mpt_close` meets its contract.
+-- `api::mpt_close` meets its contract: the word of what `monitor::close` answers.
 use mathlib.Core.Path.{ap, _∙_}
 use borrow.Author.Needs.{needs}
 use denote.Ref.{now}
-use Rattle.api.specs.Codes.{doneWord}
+use Rattle.api.specs.CallWords.{doneWord}
 use Rattle.model.specs.Calls.{Outcome}
 use Rattle.api.proofs.mpt_close.Statement.{statement}
 use Rattle.api.proofs.mpt_close.Tie as tie

@@ -1,7 +1,8 @@
 -- `api::mpt_edit` meets its contract: a permission is known by its code, and else nothing is done.
 use mathlib.Core.Path.{_≡_, refl, sym, ap, _∙_}
 use borrow.Author.Needs.{needs}
-use Rattle.api.specs.Codes.{known, permissionAt, permissionCodeOf, doneWord}
+use Rattle.api.specs.CallWords.{doneWord}
+use Rattle.types.specs.Codes.{known, permissionAt, permissionCodeOf}
 use Rattle.model.specs.Calls.{Outcome}
 use Rattle.types.specs.Views.{permissionNumber}
 use Rattle.api.proofs.mpt_edit.Statement.{statement}

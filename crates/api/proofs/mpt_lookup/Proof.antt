@@ -1,7 +1,7 @@
 -- `api::mpt_lookup` meets its contract: privilege and kind are known by their codes, and else the answer is 255.
 use mathlib.Core.Path.{_≡_, refl, sym, ap, _∙_}
 use borrow.Author.Needs.{needs}
-use Rattle.api.specs.Codes.{known, privilegeAt, kindAt, privilegeCodeOf, kindCodeOf, answerWord}
+use Rattle.types.specs.Codes.{known, privilegeAt, kindAt, privilegeCodeOf, kindCodeOf, answerWord}
 use Rattle.types.specs.Views.{privilegeOf, kindOf}
 use Rattle.api.proofs.Faults.{fault-of-lookup}
 use Rattle.api.proofs.mpt_lookup.Statement.{statement}

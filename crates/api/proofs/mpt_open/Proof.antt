@@ -1,7 +1,7 @@
--- `api::mpt_open` meets its contract.
+-- `api::mpt_open` meets its contract: the word of what `monitor::open` answers, and the memory that it leaves.
 use mathlib.Core.Path.{ap, _∙_}
 use borrow.Author.Needs.{needs}
-use Rattle.api.specs.Codes.{openedWord}
+use Rattle.api.specs.CallWords.{openedWord}
 use Rattle.model.specs.Calls.{Outcome}
 use Rattle.api.proofs.mpt_open.Statement.{statement}
 use Rattle.api.proofs.mpt_open.Tie as tie

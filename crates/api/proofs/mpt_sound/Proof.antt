@@ -4,7 +4,7 @@ use Prim.Native.Nat.{_/_}
 use lib.ListN.{length}
 use denote.Ref.{now}
 use borrow.Author.Needs.{needs}
-use Rattle.api.specs.Codes.{soundWord}
+use Rattle.api.specs.CallWords.{soundWord}
 use Rattle.scan.proofs.Admissions.{numberOf, admission-number}
 use Rattle.api.proofs.mpt_sound.Statement.{statement}
 use Rattle.api.proofs.mpt_sound.Tie as tie

@@ -1,7 +1,7 @@
--- `api::opened_word` meets its contract.
+-- `api::opened_word` meets its contract: the register is the slot's word after the open.
 use mathlib.Core.Path.{ap, _∙_}
 use borrow.Author.Needs.{needs}
-use Rattle.api.specs.Codes.{replyWord}
+use Rattle.types.specs.Codes.{replyWord}
 use Rattle.types.specs.Views.{fenceOf, replyOf}
 use Rattle.api.proofs.opened_word.Statement.{statement}
 use Rattle.api.proofs.opened_word.Tie as tie

@@ -29,7 +29,7 @@ may-requires : tie.Need-may-requires
 may-requires c κs = search needs
 
 -- what was asked of the rows
-asked : (c : tie.After-may) (k : Kind) → let a = c .before .before .args in views.needOf (a .need) ≡ needOf k → may (grantedOf (views.foundOf (a .found))) (needOf k) ≡ c .may .result
+asked : (c : tie.After-may) (k : Kind) → let a = c .before .before .args in views.needView (a .need) ≡ needOf k → may (grantedOf (views.foundOf (a .found))) (needOf k) ≡ c .may .result
 asked c k n = ap₂ (λ (p : ℕ) (need : Need). may p need) (sym (c .before .granted .ensures)) (sym n) ∙ sym (c .may .ensures)
 
 returns : tie.Need-returns

@@ -12,9 +12,9 @@ page-count-requires c κs = search needs
 pn2-requires : tie.Need-pn2-requires
 pn2-requires c κs = search needs
 
-entry-at-requires : tie.Need-entry-at-requires
+l2-entry-requires : tie.Need-l2-entry-requires
 unfolding pn2
-entry-at-requires c κs = omega (arith, c .pn2 .ensures)
+l2-entry-requires c κs = omega (arith, c .pn2 .ensures)
 
 found-requires : tie.Need-found-requires
 found-requires c κs = search needs
@@ -23,7 +23,7 @@ returns : tie.Need-returns
 unfolding walk
 returns c = let q = c .before .before in
     let t = q .before in
-    rw (← t .before .before .page-count .ensures .0, lt-ltb _ _ (t .if1 .taken), ← q .pn2 .ensures, ← c .before .entry-at .ensures .0) (c .found .ensures)
+    rw (← t .before .before .page-count .ensures .0, lt-ltb _ _ (t .if1 .taken), ← q .pn2 .ensures, ← c .before .l2-entry .ensures .0) (c .found .ensures)
 
 returns-2 : tie.Need-returns-2
 unfolding walk
@@ -32,4 +32,4 @@ returns-2 c = rw (← c .before .before .page-count .ensures .0, le-ltb _ _ (c .
 pub walk-spec : {M : Type 1} → statement M
 walk-spec =
     tie.close
-    (tie.spec page-count-requires pn2-requires entry-at-requires found-requires returns returns-2)
+    (tie.spec page-count-requires pn2-requires l2-entry-requires found-requires returns returns-2)

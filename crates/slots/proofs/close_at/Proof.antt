@@ -1,4 +1,4 @@
--- `slots::close_at` meets its contract.
+-- `slots::close_at` meets its contract: one slot is emptied, and the fence is for the SDID that it had.
 use mathlib.Core.Path.{ap}
 use Prim.Native.Nat.{ℕ}
 use native.Mathlib.Omega.{arith}

@@ -8,7 +8,7 @@ use Rattle.model.specs.Frame.{lent}
 use Rattle.table.specs.Board.{frameOver}
 use Rattle.laws.proofs.Frames.{bounds, lent-in}
 use Rattle.scan.specs.Scan.{claimOf, markOf}
-use Rattle.scan.proofs.Steps.{unlent-claim}
+use Rattle.scan.proofs.Loops.{unlent-claim}
 use Rattle.sound.proofs.claim.Statement.{statement}
 use Rattle.sound.proofs.claim.Tie as tie
 

@@ -8,7 +8,7 @@ use borrow.Author.Needs.{needs}
 use borrow.Author.Tests.{not-true, not-false}
 use Rattle.table.specs.Board.{frameOf}
 use Rattle.scan.specs.Scan.{answer, scanRun, entryStep, wordStep}
-use Rattle.scan.proofs.Steps.{run-start, run-on, run-stopped, run-ended}
+use Rattle.scan.proofs.Loops.{run-start, run-on, run-stopped, run-ended}
 use Rattle.sound.proofs.entries.Statement.{statement}
 use Rattle.sound.proofs.entries.Tie as tie
 

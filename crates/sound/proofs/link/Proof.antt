@@ -8,7 +8,7 @@ use Rattle.model.specs.Sound.{cleanPage}
 use Rattle.laws.proofs.Every.{every-cong}
 use Rattle.laws.proofs.Frames.{word-at}
 use Rattle.scan.specs.Scan.{answer, linkStep}
-use Rattle.scan.proofs.Steps.{claimed-lent}
+use Rattle.scan.proofs.Loops.{claimed-lent}
 use Rattle.sound.proofs.link.Statement.{statement}
 use Rattle.sound.proofs.link.Tie as tie
 

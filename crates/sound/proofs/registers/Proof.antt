@@ -7,7 +7,7 @@ use borrow.Author.Needs.{needs}
 use borrow.Author.Tests.{not-true, not-false}
 use Rattle.table.specs.Board.{board}
 use Rattle.scan.specs.Scan.{scanAll, registerStep}
-use Rattle.scan.proofs.Steps.{all-on, all-stopped, all-ended}
+use Rattle.scan.proofs.Loops.{all-on, all-stopped, all-ended}
 use Rattle.sound.proofs.registers.Statement.{statement}
 use Rattle.sound.proofs.registers.Tie as tie
 

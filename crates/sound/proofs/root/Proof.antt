@@ -7,7 +7,7 @@ use borrow.Author.Needs.{needs}
 use Rattle.model.specs.Frame.{lent}
 use Rattle.table.specs.Board.{frameOf}
 use Rattle.scan.specs.Scan.{scanRun, blockStep, rootStep}
-use Rattle.scan.proofs.Steps.{claimed-lent, words-are-entries}
+use Rattle.scan.proofs.Loops.{claimed-lent, words-are-entries}
 use Rattle.sound.proofs.root.Statement.{statement}
 use Rattle.sound.proofs.root.Tie as tie
 

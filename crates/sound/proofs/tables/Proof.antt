@@ -7,7 +7,7 @@ use borrow.Author.Needs.{needs}
 use borrow.Author.Tests.{not-true, not-false}
 use Rattle.table.specs.Board.{frameOf}
 use Rattle.scan.specs.Scan.{scanAll, slotStep}
-use Rattle.scan.proofs.Steps.{all-on, all-stopped, all-ended}
+use Rattle.scan.proofs.Loops.{all-on, all-stopped, all-ended}
 use Rattle.sound.proofs.tables.Statement.{statement}
 use Rattle.sound.proofs.tables.Tie as tie
 

@@ -26,15 +26,15 @@ abbrev startOf : (c : tie.After-struct-known2) → tie.Start
 startOf c = c .before .before .before .before .before
 
 -- a block takes one page at the most
-low-one : (c : tie.After-new-page) → c .new-page .result ≤ 1
+low-one : (c : tie.After-block-new-pages) → c .block-new-pages .result ≤ 1
 low-one c =
     let s = startOf (c .before) in
-    one-at-most (s .args .edit .f) (s .args .words .now) (requestOf (s .args .edit .q)) (s .args .edit .root .0) (s .pre) (s .args .edit .q .start .0 / 0x200_0000) _ (c .new-page .ensures)
+    one-at-most (s .args .edit .f) (s .args .words .now) (requestOf (s .args .edit .q)) (s .args .edit .root .0) (s .pre) (s .args .edit .q .start .0 / 0x200_0000) _ (c .block-new-pages .ensures)
 
-high-one : (c : tie.After-new-page2) → c .new-page2 .result ≤ 1
+high-one : (c : tie.After-block-new-pages2) → c .block-new-pages2 .result ≤ 1
 high-one c =
     let s = startOf (c .before .before .before) in
-    one-at-most (s .args .edit .f) (s .args .words .now) (requestOf (s .args .edit .q)) (s .args .edit .root .0) (s .pre) ((s .args .edit .q .start .0 + s .args .edit .q .size - 1) / 0x200_0000) _ (c .new-page2 .ensures)
+    one-at-most (s .args .edit .f) (s .args .words .now) (requestOf (s .args .edit .q)) (s .args .edit .root .0) (s .pre) ((s .args .edit .q .start .0 + s .args .edit .q .size - 1) / 0x200_0000) _ (c .block-new-pages2 .ensures)
 
 whole-pieces-requires : tie.Need-whole-pieces-requires
 whole-pieces-requires c κs = search needs
@@ -51,18 +51,18 @@ add-high c = let s = startOf c in record { fits = omega (arith, fair s .ends) }
 sub-high : tie.Need-sub-high
 sub-high c = let s = startOf c in omega (arith, some-size s)
 
-new-page-requires : tie.Need-new-page-requires
-new-page-requires c κs =
+block-new-pages-requires : tie.Need-block-new-pages-requires
+block-new-pages-requires c κs =
     let s = startOf c in
     (s .pre .rooted, low-inside (s .args .edit .f) (s .args .words .now) (requestOf (s .args .edit .q)) (s .args .edit .root .0) (s .pre), fair s)
 
 returns-2 : tie.Need-returns-2
 returns-2 c =
     let s = startOf (c .before .before) in
-    (c .before .new-page .ensures ∙ count-one (s .args .edit .f) (s .args .words .now) (requestOf (s .args .edit .q)) (s .args .edit .root .0) (s .pre) (c .if2 .taken), omega (arith, low-one (c .before)))
+    (c .before .block-new-pages .ensures ∙ count-one (s .args .edit .f) (s .args .words .now) (requestOf (s .args .edit .q)) (s .args .edit .root .0) (s .pre) (c .if2 .taken), omega (arith, low-one (c .before)))
 
-new-page-requires-2 : tie.Need-new-page-requires-2
-new-page-requires-2 c κs =
+block-new-pages-requires-2 : tie.Need-block-new-pages-requires-2
+block-new-pages-requires-2 c κs =
     let s = startOf (c .before .before) in
     (s .pre .rooted, high-inside (s .args .edit .f) (s .args .words .now) (requestOf (s .args .edit .q)) (s .args .edit .root .0) (s .pre), fair s)
 
@@ -72,7 +72,7 @@ add-result c = record { fits = omega (arith, low-one (c .before .before), high-o
 returns-3 : tie.Need-returns-3
 returns-3 c =
     let s = startOf (c .before .before .before) in (
-      ap₂ (λ (x y : ℕ). x + y) (c .before .before .new-page .ensures) (c .new-page2 .ensures)
+      ap₂ (λ (x y : ℕ). x + y) (c .before .before .block-new-pages .ensures) (c .block-new-pages2 .ensures)
           ∙ count-two (s .args .edit .f) (s .args .words .now) (requestOf (s .args .edit .q)) (s .args .edit .root .0) (s .pre) (c .before .if2 .left),
       omega (arith, low-one (c .before .before), high-one c),
     )
@@ -85,8 +85,8 @@ new-pages-spec =
     returns
     add-high
     sub-high
-    new-page-requires
+    block-new-pages-requires
     returns-2
-    new-page-requires-2
+    block-new-pages-requires-2
     add-result
     returns-3)

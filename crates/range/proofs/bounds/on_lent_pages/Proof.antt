@@ -1,4 +1,4 @@
--- `range::bounds::on_lent_pages` meets its contract.
+-- `range::bounds::on_lent_pages` meets its contract: tests in the definition's order; no sum wraps, since lent pages and range end within the address space.
 use native.Mathlib.Omega.{arith}
 use lib.Dec.{lit≤}
 use borrow.Author.Tests.{eq-eqb, ne-eqb, lt-ltb, le-ltb}

@@ -1,4 +1,4 @@
--- `slots::named::bad_sdid` meets its contract.
+-- `slots::named::bad_sdid` meets its contract: two tests in the definition's order.
 use native.Mathlib.Omega.{arith}
 use borrow.Author.Tests.{lt-ltb, le-ltb}
 use borrow.Author.Needs.{needs}

@@ -1,4 +1,4 @@
--- `slots::named::holds` meets its contract.
+-- `slots::named::holds` meets its contract: an empty slot holds no SDID, whatever its bits say.
 use borrow.Author.Tests.{eq-eqb, ne-eqb}
 use borrow.Author.Needs.{needs}
 use Rattle.model.specs.Sound.{isOpen}

@@ -1,4 +1,4 @@
--- `slots::named::not_empty` meets its contract.
+-- `slots::named::not_empty` meets its contract: past the last slot none is empty; else the slot's own word tells.
 use borrow.Author.Tests.{lt-ltb, le-ltb}
 use borrow.Author.Needs.{needs}
 use Rattle.model.specs.Sound.{isOpen}

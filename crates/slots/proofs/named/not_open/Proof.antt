@@ -1,4 +1,4 @@
--- `slots::named::not_open` meets its contract.
+-- `slots::named::not_open` meets its contract: past the last slot none is open; else the slot's own word tells.
 use mathlib.Core.Path.{_≡_, refl}
 use mathlib.Core.Bool.{Bool, true, false, not}
 use borrow.Author.Tests.{lt-ltb, le-ltb}

@@ -1,4 +1,4 @@
--- `table::page::piece_of` meets its contract.
+-- `table::page::piece_of` meets its contract: the definition's own remainder and quotient, in the board's numbers.
 use mathlib.Core.Path.{refl}
 use native.Mathlib.Omega.{arith}
 use Rattle.model.specs.Walk.{pieceOf}

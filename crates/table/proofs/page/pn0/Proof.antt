@@ -1,4 +1,4 @@
--- `table::page::pn0` meets its contract.
+-- `table::page::pn0` meets its contract: the definition's own remainder, in the board's number.
 use mathlib.Core.Path.{refl}
 use native.Mathlib.Omega.{arith}
 use Rattle.model.specs.Walk.{pn0}

@@ -1,4 +1,4 @@
--- `table::page::pn1` meets its contract.
+-- `table::page::pn1` meets its contract: the definition's own quotient and remainder, in the board's numbers.
 use mathlib.Core.Path.{refl}
 use native.Mathlib.Omega.{arith}
 use borrow.Author.Needs.{needs}

@@ -1,4 +1,4 @@
--- `table::register::is_bare` meets its contract.
+-- `table::register::is_bare` meets its contract: the definition's own test, on MODE.
 use borrow.Author.Needs.{needs}
 use Rattle.model.specs.Register.{isBare}
 use Rattle.table.proofs.register.is_bare.Statement.{statement}

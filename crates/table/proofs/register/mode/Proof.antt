@@ -1,4 +1,4 @@
--- `table::register::mode` meets its contract.
+-- `table::register::mode` meets its contract: quotient of the register as a number, which is below a word's bound.
 use native.Mathlib.Omega.{arith}
 use borrow.Author.Needs.{needs}
 use Rattle.model.specs.Register.{modeOf}

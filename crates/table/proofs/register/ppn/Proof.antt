@@ -1,4 +1,4 @@
--- `table::register::ppn` meets its contract.
+-- `table::register::ppn` meets its contract: remainder of the register as a number.
 use native.Mathlib.Omega.{arith}
 use borrow.Author.Needs.{needs}
 use Rattle.model.specs.Register.{ppnOf}

@@ -1,4 +1,4 @@
--- `table::register::register_ok` meets its contract.
+-- `table::register::register_ok` meets its contract: the definition's own test, on the fields as the leaves read them.
 use borrow.Author.Needs.{needs}
 use Rattle.model.specs.Register.{registerOk}
 use Rattle.table.proofs.register.register_ok.Statement.{statement}

@@ -1,4 +1,4 @@
--- `table::register::wpri` meets its contract.
+-- `table::register::wpri` meets its contract: quotient and remainder of the register as a number.
 use native.Mathlib.Omega.{arith}
 use borrow.Author.Needs.{needs}
 use Rattle.model.specs.Register.{wpriOf}

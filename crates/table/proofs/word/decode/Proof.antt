@@ -1,4 +1,4 @@
--- `table::word::decode` meets its contract.
+-- `table::word::decode` meets its contract: TYPE and INFO decide, and each branch is one law of decoded words.
 use native.Mathlib.Omega.{arith}
 use lib.Dec.{lit<}
 use Rattle.table.specs.Board.{board}

@@ -1,4 +1,4 @@
--- `types::pages::cut` meets its contract.
+-- `types::pages::cut` meets its contract: the end lies before the run, after it or within it, and in each the three bounds are arithmetic.
 use native.Mathlib.Omega.{arith}
 use borrow.Author.Needs.{needs}
 use Rattle.types.proofs.pages.cut.Statement.{statement}

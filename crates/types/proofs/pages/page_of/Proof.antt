@@ -1,4 +1,4 @@
--- `types::pages::page_of` meets its contract.
+-- `types::pages::page_of` meets its contract: the definition's own quotient.
 use mathlib.Core.Path.{refl}
 use Rattle.model.specs.Frame.{pageOf}
 use Rattle.types.proofs.pages.page_of.Statement.{statement}

@@ -1,4 +1,4 @@
--- `types::pages::pn2` meets its contract.
+-- `types::pages::pn2` meets its contract: the definition's own quotient.
 use mathlib.Core.Path.{refl}
 use Rattle.model.specs.Walk.{pn2}
 use Rattle.types.proofs.pages.pn2.Statement.{statement}

@@ -1,4 +1,4 @@
--- `table::rights::cause_of` meets its contract: each kind hands on the access that it is on behalf of.
+-- `types::rights::cause_of` meets its contract: each kind hands on the access that it is on behalf of.
 use borrow.Author.Needs.{needs}
 use Rattle.model.specs.Access.{originalOf}
 use Rattle.types.proofs.rights.cause_of.Statement.{statement}

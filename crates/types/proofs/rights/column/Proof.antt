@@ -1,4 +1,4 @@
--- `table::rights::column` meets its contract.
+-- `types::rights::column` meets its contract: a case for each need.
 use borrow.Author.Needs.{needs}
 use Rattle.model.specs.Access.{columnOf}
 use Rattle.types.proofs.rights.column.Statement.{statement}

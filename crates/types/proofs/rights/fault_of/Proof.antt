@@ -1,4 +1,4 @@
--- `table::rights::fault_of` meets its contract.
+-- `types::rights::fault_of` meets its contract: a case for each access.
 use borrow.Author.Needs.{needs}
 use Rattle.model.specs.Access.{causeOf}
 use Rattle.types.proofs.rights.fault_of.Statement.{statement}

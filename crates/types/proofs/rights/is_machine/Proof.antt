@@ -1,4 +1,4 @@
--- `table::rights::is_machine` meets its contract.
+-- `types::rights::is_machine` meets its contract: a case for each privilege.
 use borrow.Author.Needs.{needs}
 use Rattle.model.specs.Lookup.{isMachine}
 use Rattle.types.proofs.rights.is_machine.Statement.{statement}

@@ -1,4 +1,4 @@
--- `table::rights::may` meets its contract: the code's rows are the model's rows.
+-- `types::rights::may` meets its contract: the code's rows are the model's rows.
 use borrow.Author.Needs.{needs}
 use Rattle.model.specs.Access.{may, mayRows}
 use Rattle.types.proofs.rights.may.Statement.{statement}

@@ -1,9 +1,9 @@
--- `lookup::entry_at` meets its contract: where the root is lent, its entry; else nothing.
+-- `lookup::l2_entry` meets its contract: where the root is lent, its entry; else nothing.
 use mathlib.Core.Path.{sym, _∙_}
 use borrow.Author.Needs.{needs}
 use Rattle.model.specs.Walk.{entryAt, entryPage}
-use Rattle.lookup.proofs.entry_at.Statement.{statement}
-use Rattle.lookup.proofs.entry_at.Tie as tie
+use Rattle.lookup.proofs.l2_entry.Statement.{statement}
+use Rattle.lookup.proofs.l2_entry.Tie as tie
 
 is-lent-requires : tie.Need-is-lent-requires
 is-lent-requires c κs = search needs
@@ -18,5 +18,5 @@ returns-2 : tie.Need-returns-2
 unfolding entryAt entryPage
 returns-2 c = (rw (sym (c .before .is-lent .ensures) ∙ c .if1 .left), tt)
 
-pub entry-at-spec : {M : Type 1} → statement M
-entry-at-spec = tie.close (tie.spec is-lent-requires entry-at-requires returns returns-2)
+pub l2-entry-spec : {M : Type 1} → statement M
+l2-entry-spec = tie.close (tie.spec is-lent-requires entry-at-requires returns returns-2)

@@ -1,24 +1,22 @@
 // Codes and words: what C asks and is answered.
+use crate::Access;
+use crate::Answer;
+use crate::Fence;
+use crate::Kind;
 use crate::KindCode;
+use crate::Permission;
 use crate::PermissionCode;
+use crate::Privilege;
 use crate::PrivilegeCode;
-use monitor::Reply;
-use table::board::Word;
-use types::Access;
-use types::Answer;
-use types::Fence;
-use types::Kind;
-use types::Permission;
-use types::Privilege;
-use types::number;
-use types::rights;
+use crate::Reply;
+use crate::number;
+use crate::rights;
 ghost use Rattle.model.specs.Numbers.{if_then_else_};
 ghost use mathlib.Core.Path.{_≡_};
 ghost use Prim.Native.Nat.{ℕ, _<_, _^_};
-ghost use lib.ListN.{getD};
 ghost use Rattle.model.specs.Access.{fault, causeOf, originalOf};
 ghost use Rattle.types.specs.Views.{kindOf, answerOf, fenceOf, replyOf};
-ghost use Rattle.api.specs.Codes.{privilegeAt, kindAt, permissionAt, privilegeCodeOf, kindCodeOf, permissionCodeOf, answerWord, fenceWord, replyWord};
+ghost use Rattle.types.specs.Codes.{privilegeAt, kindAt, permissionAt, privilegeCodeOf, kindCodeOf, permissionCodeOf, answerWord, fenceWord, replyWord};
 
 pub fn privilege_at(code: u64) -> PrivilegeCode
     ensures { λ r. ⌜ privilegeCodeOf r ≡ privilegeAt code ⌝ }
@@ -135,15 +133,4 @@ pub fn reply_word(reply: Reply, fence: Fence, register: u64) -> u64
             256 + all_word(all) + fence_word(fence) + count % 0x100_0000_0000 * 0x4_0000
         }
     }
-}
-
-// Slot s, and zero where there is none.
-pub fn slot_at(slots: [Word; 8], s: u64) -> Word
-    ensures { λ r. ⌜ r ≡ getD slots s 0 ⌝ }
-{
-    if s < 8 {
-        let at = s as usize;
-        return slots[at];
-    }
-    0
 }

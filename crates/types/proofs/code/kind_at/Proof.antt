@@ -1,8 +1,8 @@
--- `api::code::kind_at` meets its contract: the tests in the definition's order.
+-- `types::code::kind_at` meets its contract: the tests in the definition's order.
 use Rattle.laws.proofs.Tests.{tests}
-use Rattle.api.specs.Codes.{kindAt}
-use Rattle.api.proofs.code.kind_at.Statement.{statement}
-use Rattle.api.proofs.code.kind_at.Tie as tie
+use Rattle.types.specs.Codes.{kindAt}
+use Rattle.types.proofs.code.kind_at.Statement.{statement}
+use Rattle.types.proofs.code.kind_at.Tie as tie
 
 returns : tie.Need-returns
 unfolding kindAt

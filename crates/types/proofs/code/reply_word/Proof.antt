@@ -1,9 +1,9 @@
--- `api::code::reply_word` meets its contract.
+-- `types::code::reply_word` meets its contract: a case for each reply; each part of the word is below the place where the next begins.
 use mathlib.Core.Path.{ap, ap₂}
 use Prim.Native.Nat.{ℕ, _+_, _*_, _%_, _^_}
 use borrow.Author.Needs.{needs}
-use Rattle.api.proofs.code.reply_word.Statement.{statement}
-use Rattle.api.proofs.code.reply_word.Tie as tie
+use Rattle.types.proofs.code.reply_word.Statement.{statement}
+use Rattle.types.proofs.code.reply_word.Tie as tie
 
 enum-known-reply : tie.Need-enum-known-reply
 enum-known-reply c = search needs

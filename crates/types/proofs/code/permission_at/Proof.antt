@@ -1,8 +1,8 @@
--- `api::code::permission_at` meets its contract: the tests in the definition's order.
+-- `types::code::permission_at` meets its contract: the tests in the definition's order.
 use Rattle.laws.proofs.Tests.{tests}
-use Rattle.api.specs.Codes.{permissionAt}
-use Rattle.api.proofs.code.permission_at.Statement.{statement}
-use Rattle.api.proofs.code.permission_at.Tie as tie
+use Rattle.types.specs.Codes.{permissionAt}
+use Rattle.types.proofs.code.permission_at.Statement.{statement}
+use Rattle.types.proofs.code.permission_at.Tie as tie
 
 returns : tie.Need-returns
 unfolding permissionAt

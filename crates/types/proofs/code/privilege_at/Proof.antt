@@ -1,8 +1,8 @@
--- `api::code::privilege_at` meets its contract: the tests in the definition's order.
+-- `types::code::privilege_at` meets its contract: the tests in the definition's order.
 use Rattle.laws.proofs.Tests.{tests}
-use Rattle.api.specs.Codes.{privilegeAt}
-use Rattle.api.proofs.code.privilege_at.Statement.{statement}
-use Rattle.api.proofs.code.privilege_at.Tie as tie
+use Rattle.types.specs.Codes.{privilegeAt}
+use Rattle.types.proofs.code.privilege_at.Statement.{statement}
+use Rattle.types.proofs.code.privilege_at.Tie as tie
 
 returns : tie.Need-returns
 unfolding privilegeAt

@@ -1,9 +1,9 @@
--- `api::code::answer_word` meets its contract: the fault at hand is the answer's, if the answer is a fault.
+-- `types::code::answer_word` meets its contract: the fault at hand is the answer's, if the answer is a fault.
 use mathlib.Core.Path.{ap}
 use borrow.Author.Needs.{needs}
 use Rattle.types.specs.Views.{answerOf}
-use Rattle.api.proofs.code.answer_word.Statement.{statement}
-use Rattle.api.proofs.code.answer_word.Tie as tie
+use Rattle.types.proofs.code.answer_word.Statement.{statement}
+use Rattle.types.proofs.code.answer_word.Tie as tie
 
 enum-told : tie.Need-enum-told
 enum-told c = search needs

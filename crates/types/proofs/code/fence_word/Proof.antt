@@ -1,8 +1,8 @@
--- `api::code::fence_word` meets its contract.
+-- `types::code::fence_word` meets its contract: a case for each fence; its number is below 2^18, so that what stands above it in the word has room.
 use borrow.Author.Needs.{needs}
 use native.Mathlib.Omega.{arith}
-use Rattle.api.proofs.code.fence_word.Statement.{statement}
-use Rattle.api.proofs.code.fence_word.Tie as tie
+use Rattle.types.proofs.code.fence_word.Statement.{statement}
+use Rattle.types.proofs.code.fence_word.Tie as tie
 
 enum-told : tie.Need-enum-told
 enum-told c = search needs

@@ -10,22 +10,22 @@ use lib.ListN.{length, getD, drop, drop-of-length-le}
 use lib.Seq.{drop-cons}
 use Rattle.model.specs.Frame.{Frame, lent, indexOf}
 use Rattle.laws.proofs.Frames.{entry-at}
-use Rattle.scan.specs.Scan.{Scan, unsound, marked, andThen, scanAll, scanRun, claimOf, entryStep, wordStep, blockStep}
+use Rattle.scan.specs.Scan.{Scan, unsound, marked, thenScan, scanAll, scanRun, claimOf, entryStep, wordStep, blockStep}
 
 module _ (step : List Bool → ℕ → Scan) (k : List Bool) where
   -- ---- a list
 
   module _ (l : List ℕ) (i : ℕ) (h : i < length l) where
-    all-turn : scanAll step k (drop i l) ≡ andThen (step k (getD l i 0)) (λ o. scanAll step o (drop (i + 1) l))
+    all-turn : scanAll step k (drop i l) ≡ thenScan (step k (getD l i 0)) (λ o. scanAll step o (drop (i + 1) l))
     unfolding scanAll
     all-turn = ap (scanAll step k) (drop-cons l i 0 h ∙ ap (λ (n : ℕ). getD l i 0 ∷ drop n l) (sym (add-one i)))
 
     -- the step went well: the rest goes on from its marks
     pub all-on : {j : List Bool} → marked j ≡ step k (getD l i 0) → scanAll step k (drop i l) ≡ scanAll step j (drop (i + 1) l)
-    all-on said = all-turn ∙ ap (λ (s : Scan). andThen s (λ o. scanAll step o (drop (i + 1) l))) (sym said)
+    all-on said = all-turn ∙ ap (λ (s : Scan). thenScan s (λ o. scanAll step o (drop (i + 1) l))) (sym said)
 
     pub all-stopped : unsound ≡ step k (getD l i 0) → scanAll step k (drop i l) ≡ unsound
-    all-stopped said = all-turn ∙ ap (λ (s : Scan). andThen s (λ o. scanAll step o (drop (i + 1) l))) (sym said)
+    all-stopped said = all-turn ∙ ap (λ (s : Scan). thenScan s (λ o. scanAll step o (drop (i + 1) l))) (sym said)
 
   pub all-ended : (l : List ℕ) (i : ℕ) → length l ≤ i → scanAll step k (drop i l) ≡ marked k
   unfolding scanAll
@@ -37,17 +37,17 @@ module _ (step : List Bool → ℕ → Scan) (k : List Bool) where
   run-start n = ap (λ (c : ℕ). scanRun step k c 0) (sym (sub-zero n))
 
   module _ (n i : ℕ) (h : i < n) where
-    run-turn : scanRun step k (n - i) i ≡ andThen (step k i) (λ o. scanRun step o (n - (i + 1)) (i + 1))
+    run-turn : scanRun step k (n - i) i ≡ thenScan (step k i) (λ o. scanRun step o (n - (i + 1)) (i + 1))
     unfolding scanRun
     run-turn =
         let e : n - i ≡ suc (n - (i + 1)) = omega arith in
-        ap (λ (c : ℕ). scanRun step k c i) e ∙ ap (λ (c : ℕ). andThen (step k i) (λ o. scanRun step o (n - (i + 1)) c)) (sym (add-one i))
+        ap (λ (c : ℕ). scanRun step k c i) e ∙ ap (λ (c : ℕ). thenScan (step k i) (λ o. scanRun step o (n - (i + 1)) c)) (sym (add-one i))
 
     pub run-on : {j : List Bool} → marked j ≡ step k i → scanRun step k (n - i) i ≡ scanRun step j (n - (i + 1)) (i + 1)
-    run-on said = run-turn ∙ ap (λ (s : Scan). andThen s (λ o. scanRun step o (n - (i + 1)) (i + 1))) (sym said)
+    run-on said = run-turn ∙ ap (λ (s : Scan). thenScan s (λ o. scanRun step o (n - (i + 1)) (i + 1))) (sym said)
 
     pub run-stopped : unsound ≡ step k i → scanRun step k (n - i) i ≡ unsound
-    run-stopped said = run-turn ∙ ap (λ (s : Scan). andThen s (λ o. scanRun step o (n - (i + 1)) (i + 1))) (sym said)
+    run-stopped said = run-turn ∙ ap (λ (s : Scan). thenScan s (λ o. scanRun step o (n - (i + 1)) (i + 1))) (sym said)
 
   pub run-ended : (n i : ℕ) → n ≤ i → scanRun step k (n - i) i ≡ marked k
   unfolding scanRun

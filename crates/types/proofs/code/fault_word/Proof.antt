@@ -1,9 +1,9 @@
--- `api::code::fault_word` meets its contract: a cause is a small number.
+-- `types::code::fault_word` meets its contract: a cause is a small number.
 use borrow.Author.Needs.{needs}
 use native.Mathlib.Omega.{arith}
-use Rattle.api.proofs.Small.{cause-small}
-use Rattle.api.proofs.code.fault_word.Statement.{statement}
-use Rattle.api.proofs.code.fault_word.Tie as tie
+use Rattle.types.proofs.Causes.{cause-small}
+use Rattle.types.proofs.code.fault_word.Statement.{statement}
+use Rattle.types.proofs.code.fault_word.Tie as tie
 
 cause-of-requires : tie.Need-cause-of-requires
 cause-of-requires c κs = search needs

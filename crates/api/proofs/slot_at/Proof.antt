@@ -1,9 +1,9 @@
--- `api::code::slot_at` meets its contract.
+-- `api::slot_at` meets its contract: past the last slot the list has its default, zero.
 use mathlib.Core.Path.{sym}
 use borrow.Author.Needs.{needs}
 use lib.ListN.{List·getD-eq-default}
-use Rattle.api.proofs.code.slot_at.Statement.{statement}
-use Rattle.api.proofs.code.slot_at.Tie as tie
+use Rattle.api.proofs.slot_at.Statement.{statement}
+use Rattle.api.proofs.slot_at.Tie as tie
 
 mul-result : tie.Need-mul-result
 mul-result c = search needs

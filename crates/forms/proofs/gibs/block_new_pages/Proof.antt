@@ -1,4 +1,4 @@
--- `forms::gibs::new_page` meets its contract: a block inside the range takes no page.
+-- `forms::gibs::block_new_pages` meets its contract: a block inside the range takes no page.
 use mathlib.Core.Path.{_≡_, ap}
 use Prim.Native.Nat.{_/_}
 use lib.ListN.{length}
@@ -10,8 +10,8 @@ use Rattle.model.specs.Numbers.{if_then_else_}
 use Rattle.model.specs.Stores.{needsPage}
 use Rattle.model.specs.Walk.{entryAt}
 use borrow.Author.Needs.{needs}
-use Rattle.forms.proofs.gibs.new_page.Statement.{statement}
-use Rattle.forms.proofs.gibs.new_page.Tie as tie
+use Rattle.forms.proofs.gibs.block_new_pages.Statement.{statement}
+use Rattle.forms.proofs.gibs.block_new_pages.Tie as tie
 
 mul-lies : tie.Need-mul-lies
 mul-lies c = search needs
@@ -52,8 +52,8 @@ returns-2 c = search needs
 returns-3 : tie.Need-returns-3
 returns-3 c = search needs
 
-pub new-page-spec : {M : Type 1} → statement M
-new-page-spec =
+pub block-new-pages-spec : {M : Type 1} → statement M
+block-new-pages-spec =
     tie.close
     (tie.spec
     mul-lies
