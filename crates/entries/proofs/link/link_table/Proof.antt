@@ -1,16 +1,18 @@
 -- `entries::link::link_table` meets its contract: the page is filled while it is ahead of the link, and the link comes next.
 use mathlib.Core.Path.{_≡_, refl, sym, ap, _∙_}
-use mathlib.Core.Bool.{true}
+use mathlib.Core.Bool.{true, false, not}
 use mathlib.Core.List.{List, [], _∷_, _++_}
 use Prim.Native.Nat.{ℕ}
+use lib.ListN.{length}
 use borrow.Author.Needs.{needs}
 use Rattle.table.specs.Board.{board, frameOf}
 use Rattle.entries.proofs.Places.{frame-same, lent-same}
 use Rattle.entries.specs.Ahead.{Ahead}
 use Rattle.entries.proofs.Order.{ahead-of, Remaining, remaining-start, remaining-ahead, remaining-next, remaining-cut}
 use Rattle.entries.proofs.Runs.{went-whole, went-cut}
-use Rattle.entries.specs.Run.{run}
+use Rattle.entries.specs.Run.{out, run}
 use Rattle.types.specs.declared.Budget.{Budget}
+use Rattle.types.specs.declared.Progress.{Progress}
 use Rattle.model.specs.Entry.{table, encode}
 use Rattle.model.specs.Frame.{Frame, lent}
 use Rattle.model.specs.Stores.{Store, storeL2, newTable, linkTable}
@@ -32,32 +34,55 @@ first : (s : tie.Start) → On s (s .args .left) (s .args .words .now) (page s +
 unfolding linkTable
 first s = remaining-start refl (s .pre .7)
 
-then : (el : tie.Else1) → let r = el .before .before .before .before .fill-page in On (el .before .before .before .before .before .before .before) (r .result .left) (r .last .1 .0) (link (el .before .before .before .before .before .before .before))
-then el =
-    let page-call = el .before .before .before .before .fill-page in
-    remaining-next (first (el .before .before .before .before .before .before .before)) _ _ refl (sym (went-whole (page-call .result) (page-call .last .1 .0) (el .if1 .left)) ∙ page-call .ensures)
+-- the call that fills the page: it is cut, and so is the whole; or the link comes next
+module _ (k : tie.After-fill-page) where
+  abbrev begun : tie.Start
+  begun = k .before .before .before
+
+  abbrev answer : Progress
+  answer = k .fill-page .result
+
+  abbrev found : List ℕ
+  found = begun .args .words .now
+
+  abbrev filled : List ℕ
+  filled = k .fill-page .last .1 .0
+
+  kept : length filled ≡ length found
+  kept = k .fill-page .kept .1 .0
+
+  made : out (answer .all) (answer .left) filled ≡ run (begun .args .left) (page begun) found
+  made = k .fill-page .ensures
+
+  cut : not (answer .all) ≡ true → out (answer .all) (answer .left) filled ≡ run (begun .args .left) (page begun ++ link begun) found
+  unfolding linkTable
+  cut z = let x = went-cut answer filled z in x ∙ remaining-cut (first begun) _ _ refl (sym x ∙ made)
+
+  then : not (answer .all) ≡ false → On begun (answer .left) filled (link begun)
+  then z = remaining-next (first begun) _ _ refl (sym (went-whole answer filled z) ∙ made)
 
 fill-page-requires : tie.Need-fill-page-requires
-fill-page-requires c κs = let next : Ahead (c .before .before .args .words .now) (page (c .before .before)) = remaining-ahead (first (c .before .before)) _ _ refl in search needs
+fill-page-requires c κs =
+    let s = c .before .before in
+    let next : Ahead (s .args .words .now) (page s) = remaining-ahead (first s) _ _ refl in
+    search needs
 
 same-length : tie.Need-same-length
 same-length c = search needs
 
 returns : tie.Need-returns
-returns c =
-    let r = c .before .before .before .before .fill-page in
-    let z = went-cut (r .result) (r .last .1 .0) (c .if1 .taken) in
-    z ∙ remaining-cut (first (c .before .before .before .before .before .before .before)) _ _ refl (sym z ∙ r .ensures)
+unfolding linkTable
+returns c = cut (c .before .before .before .before) (c .if1 .taken)
 
--- what either call asks holds still after the other
+-- what the link asks holds still after the page is filled
 link-page-requires : tie.Need-link-page-requires
 link-page-requires c κs =
-    let s = c .before .before .before .before .before .before .before .before .before in
-    let a = s .args in
-    let r = c .before .before .before .before .before .before .fill-page in
-    let root : lent (frameOf (a .edit .f) (r .last .1 .0)) (a .edit .root .0) ≡ true = lent-same (a .edit .f) (a .words .now) (r .last .1 .0) (r .kept .1 .0) (a .edit .root .0) (s .pre .5) in
-    let next : Ahead (r .last .1 .0) (storeL2 (frameOf (a .edit .f) (r .last .1 .0)) (a .edit .root .0) (a .new .b) (encode board (table (a .new .page .0))) ∷ [])
-    = ahead-of (ap (λ (X : Frame). storeL2 X (a .edit .root .0) (a .new .b) (encode board (table (a .new .page .0))) ∷ []) (frame-same (a .edit .f) (a .words .now) (r .last .1 .0) (sym (r .kept .1 .0)))) (then (c .before .before) .next) in
+    let el = c .before .before in
+    let k = el .before .before .before .before in
+    let a = begun k .args in
+    let root : lent (frameOf (a .edit .f) (filled k)) (a .edit .root .0) ≡ true = lent-same (a .edit .f) (found k) (filled k) (kept k) (a .edit .root .0) (begun k .pre .5) in
+    let next : Ahead (filled k) (storeL2 (frameOf (a .edit .f) (filled k)) (a .edit .root .0) (a .new .b) (encode board (table (a .new .page .0))) ∷ [])
+    = ahead-of (ap (λ (X : Frame). storeL2 X (a .edit .root .0) (a .new .b) (encode board (table (a .new .page .0))) ∷ []) (frame-same (a .edit .f) (found k) (filled k) (sym (kept k)))) (then k (el .if1 .left) .next) in
     search needs
 
 same-length-2 : tie.Need-same-length-2
@@ -66,11 +91,11 @@ same-length-2 c = search needs
 returns-2 : tie.Need-returns-2
 returns-2 c =
     let el = c .before .before .before .before .before in
-    let a = el .before .before .before .before .before .before .before .args in
-    let r = (el .before .before .before .before) .fill-page in
+    let k = el .before .before .before .before in
+    let a = begun k .args in
     c .before .before .link-page .ensures
-    ∙ ap (λ (X : Frame). run (r .result .left) (storeL2 X (a .edit .root .0) (a .new .b) (encode board (table (a .new .page .0))) ∷ []) (r .last .1 .0)) (frame-same (a .edit .f) (r .last .1 .0) (a .words .now) (r .kept .1 .0))
-    ∙ sym (then el .same)
+    ∙ ap (λ (X : Frame). run (answer k .left) (storeL2 X (a .edit .root .0) (a .new .b) (encode board (table (a .new .page .0))) ∷ []) (filled k)) (frame-same (a .edit .f) (filled k) (found k) (kept k))
+    ∙ sym (then k (el .if1 .left) .same)
 
 pub link-table-spec : {M : Type 1} → statement M
 link-table-spec =
