@@ -1,15 +1,16 @@
--- `entries::link::link_table` meets its contract: the page is filled while it is ahead of the link, and the link comes next.
+-- `entries::link::link_table` meets its contract: the list is the page's entries and then the link, so once the page is filled the link is what is
+-- left.
 use mathlib.Core.Path.{_≡_, refl, sym, ap, _∙_}
 use mathlib.Core.Bool.{true}
 use mathlib.Core.List.{List, [], _∷_, _++_}
 use Prim.Native.Nat.{ℕ}
 use borrow.Author.Needs.{needs}
-use Rattle.table.specs.Board.{board, frameOf}
-use Rattle.entries.proofs.Places.{frame-same, lent-same}
-use Rattle.entries.specs.Ahead.{Ahead}
-use Rattle.entries.proofs.Order.{ahead-of, Remaining, remaining-start, remaining-ahead, remaining-next, remaining-cut}
-use Rattle.entries.proofs.Runs.{went-whole, went-cut}
-use Rattle.entries.specs.Run.{run}
+use Rattle.table.specs.Board.{board, frameOf, frameOver}
+use Rattle.shapes.proofs.Places.{lent-same}
+use Rattle.shapes.specs.Ahead.{Ahead}
+use Rattle.shapes.proofs.Order.{ahead-of, Remaining, remaining-start, remaining-ahead, remaining-next, remaining-cut}
+use Rattle.shapes.proofs.Runs.{progress-all, progress-cut}
+use Rattle.shapes.specs.Run.{run}
 use Rattle.types.specs.declared.Budget.{Budget}
 use Rattle.model.specs.Entry.{table, encode}
 use Rattle.model.specs.Frame.{Frame, lent}
@@ -35,7 +36,7 @@ first s = remaining-start refl (s .pre .7)
 then : (el : tie.Else1) → let r = el .before .before .before .before .fill-page in On (el .before .before .before .before .before .before .before) (r .result .left) (r .last .1 .0) (link (el .before .before .before .before .before .before .before))
 then el =
     let page-call = el .before .before .before .before .fill-page in
-    remaining-next (first (el .before .before .before .before .before .before .before)) _ _ refl (sym (went-whole (page-call .result) (page-call .last .1 .0) (el .if1 .left)) ∙ page-call .ensures)
+    remaining-next (first (el .before .before .before .before .before .before .before)) _ _ refl (sym (progress-all (page-call .result) (page-call .last .1 .0) (el .if1 .left)) ∙ page-call .ensures)
 
 fill-page-requires : tie.Need-fill-page-requires
 fill-page-requires c κs = let next : Ahead (c .before .before .args .words .now) (page (c .before .before)) = remaining-ahead (first (c .before .before)) _ _ refl in search needs
@@ -46,7 +47,7 @@ same-length c = search needs
 returns : tie.Need-returns
 returns c =
     let r = c .before .before .before .before .fill-page in
-    let z = went-cut (r .result) (r .last .1 .0) (c .if1 .taken) in
+    let z = progress-cut (r .result) (r .last .1 .0) (c .if1 .taken) in
     z ∙ remaining-cut (first (c .before .before .before .before .before .before .before)) _ _ refl (sym z ∙ r .ensures)
 
 -- what either call asks holds still after the other
@@ -55,9 +56,9 @@ link-page-requires c κs =
     let s = c .before .before .before .before .before .before .before .before .before in
     let a = s .args in
     let r = c .before .before .before .before .before .before .fill-page in
-    let root : lent (frameOf (a .edit .f) (r .last .1 .0)) (a .edit .root .0) ≡ true = lent-same (a .edit .f) (a .words .now) (r .last .1 .0) (r .kept .1 .0) (a .edit .root .0) (s .pre .5) in
+    let root : lent (frameOf (a .edit .f) (r .last .1 .0)) (a .edit .root .0) ≡ true = lent-same (frameOver (a .edit .f)) (a .words .now) (r .last .1 .0) (r .kept .1 .0) (a .edit .root .0) (s .pre .5) in
     let next : Ahead (r .last .1 .0) (storeL2 (frameOf (a .edit .f) (r .last .1 .0)) (a .edit .root .0) (a .new .b) (encode board (table (a .new .page .0))) ∷ [])
-    = ahead-of (ap (λ (X : Frame). storeL2 X (a .edit .root .0) (a .new .b) (encode board (table (a .new .page .0))) ∷ []) (frame-same (a .edit .f) (a .words .now) (r .last .1 .0) (sym (r .kept .1 .0)))) (then (c .before .before) .next) in
+    = ahead-of (ap (λ (X : Frame). storeL2 X (a .edit .root .0) (a .new .b) (encode board (table (a .new .page .0))) ∷ []) (ap (frameOver (a .edit .f)) (sym (r .kept .1 .0)))) (then (c .before .before) .next) in
     search needs
 
 same-length-2 : tie.Need-same-length-2
@@ -69,7 +70,7 @@ returns-2 c =
     let a = el .before .before .before .before .before .before .before .args in
     let r = (el .before .before .before .before) .fill-page in
     c .before .before .link-page .ensures
-    ∙ ap (λ (X : Frame). run (r .result .left) (storeL2 X (a .edit .root .0) (a .new .b) (encode board (table (a .new .page .0))) ∷ []) (r .last .1 .0)) (frame-same (a .edit .f) (r .last .1 .0) (a .words .now) (r .kept .1 .0))
+    ∙ ap (λ (X : Frame). run (r .result .left) (storeL2 X (a .edit .root .0) (a .new .b) (encode board (table (a .new .page .0))) ∷ []) (r .last .1 .0)) (ap (frameOver (a .edit .f)) (r .kept .1 .0))
     ∙ sym (then el .same)
 
 pub link-table-spec : {M : Type 1} → statement M
