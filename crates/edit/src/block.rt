@@ -31,10 +31,11 @@ ghost use mathlib.Core.Bool.{true, false};
 ghost use mathlib.Core.List.{List, headD};
 ghost use Prim.Native.Nat.{_+_, _-_, _*_, _/_, _%_, _≤_, _<_, _^_};
 ghost use lib.ListN.{drop};
-ghost use Rattle.sequence.specs.Blocks.{Encodes, HasNewPage};
-ghost use Rattle.sequence.specs.Steps.{Advanced, storesOver};
-ghost use Rattle.entries.specs.Ahead.{Ahead};
-ghost use Rattle.entries.specs.Run.{out, run};
+ghost use Rattle.sequence.specs.Blocks.{HasNewPage};
+ghost use Rattle.sequence.specs.GibBlocks.{Advanced};
+ghost use Rattle.shapes.specs.Blocks.{Encodes, storesOver};
+ghost use Rattle.shapes.specs.Ahead.{Ahead};
+ghost use Rattle.shapes.specs.Run.{out, run};
 ghost use Rattle.types.specs.Range.{Fair};
 ghost use Rattle.model.specs.Forms.{wantTable};
 ghost use Rattle.model.specs.Frame.{lent, blocks};
@@ -55,7 +56,7 @@ fn put_entry(edit: Edit, words: &mut [Word], b: u64, word: Word, left: Budget) -
 }
 
 // The stores of a block that is to have an L1 page.
-fn table_stores(
+fn store_table(
     edit: Edit,
     words: &mut [Word],
     e: Entry,
@@ -81,7 +82,7 @@ fn table_stores(
 }
 
 // The stores of a block.
-fn block_stores(
+fn store_block(
     edit: Edit,
     words: &mut [Word],
     form: Form,
@@ -93,13 +94,13 @@ fn block_stores(
     ghost { List Store }
     requires { λ ss. ⌜ ss ≡ blockStores (frameOf (edit .f) (now words)) (now words) (requestOf (edit .q)) (edit .root .0) (formOf form) (entryOf e) b (new .0) ⌝ }
     requires { λ ss. ⌜ (b < BLOCKS) × Fair (edit .q) × Good (frameOf (edit .f) (now words)) (now words) (entryOf e) × (lent (frameOf (edit .f) (now words)) (edit .root .0) ≡ true)
-        × (needsPage (formOf form) (entryOf e) ≡ true → (lent (frameOf (edit .f) (now words)) (new .0) ≡ true) × (new .0 < 2 ^ board .infoBits)) × Encodes (formOf form) × Ahead (now words) ss ⌝ }
+        × (needsPage (formOf form) (entryOf e) ≡ true → (lent (frameOf (edit .f) (now words)) (new .0) ≡ true) × (new .0 < 2 ^ board .infoBits)) × Encodes board (formOf form) × Ahead (now words) ss ⌝ }
     ensures { λ ss r. ⌜ out (r .all) (r .left) (now (words .exit)) ≡ run left ss (now (words .entry)) ⌝ }
 {
     match form {
         Form::Flat(p) => put_entry(edit, words, b, narrow(p * TYPE), left),
         Form::Pieces(info) => put_entry(edit, words, b, narrow(PIECE_ENTRY + info), left),
-        Form::Table => table_stores(edit, words, e, b, new, left),
+        Form::Table => store_table(edit, words, e, b, new, left),
     }
 }
 
@@ -122,10 +123,10 @@ fn one_block(
     let form = block_form(edit, words, gib.one, gib.p, e, b);
     let new = page_from(free, next);
     let after = next_page(form, e, next);
-    let went = block_stores(edit, words, form, e, b, new, left);
-    let rest = went.left;
+    let progress = store_block(edit, words, form, e, b, new, left);
+    let rest = progress.left;
     Step {
-        all: went.all,
+        all: progress.all,
         left: rest,
         next: after,
         count: 1,
@@ -148,10 +149,10 @@ fn flat_blocks(
 {
     let n = GIB_BLOCKS - b % GIB_BLOCKS;
     let at = page_at(edit.f, words, edit.root) + b as usize;
-    let went = flat_entries(words, at, n as usize, narrow(gib.p * TYPE), left);
-    let rest = went.left;
+    let progress = flat_entries(words, at, n as usize, narrow(gib.p * TYPE), left);
+    let rest = progress.left;
     Step {
-        all: went.all,
+        all: progress.all,
         left: rest,
         next: next,
         count: n,

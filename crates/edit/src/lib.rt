@@ -23,14 +23,14 @@ ghost use mathlib.Core.Path.{_≡_};
 ghost use mathlib.Core.Bool.{true};
 ghost use Rattle.sequence.specs.Made.{fenceAfter, IsMade};
 ghost use Rattle.sequence.specs.Blocks.{Prepared, wholeList};
-ghost use Rattle.entries.specs.Run.{out, run};
+ghost use Rattle.shapes.specs.Run.{out, run};
 ghost use Rattle.model.specs.Fence.{inRoot};
 ghost use Rattle.model.specs.Frame.{lent, boundsOk};
 ghost use Rattle.types.specs.Views.{fenceOf, requestOf, freeList};
 ghost use Rattle.table.specs.Board.{frameOf};
 
 // The stores of an edit that no refusal fits, in order, up to the limit. free: the free pages, lowest first.
-fn store_blocks(edit: Edit, words: &mut [Word], free: Free, limit: Budget) -> Progress
+fn store_range(edit: Edit, words: &mut [Word], free: Free, limit: Budget) -> Progress
     requires { ⌜ Prepared (frameOf (edit .f) (now words)) (now words) (requestOf (edit .q)) (edit .root .0) (freeList free) ⌝ }
     ensures { λ r. ⌜ out (r .all) (r .left) (now (words .exit))
         ≡ run limit (wholeList (frameOf (edit .f) (now (words .entry))) (now (words .entry)) (requestOf (edit .q)) (edit .root .0) (freeList free)) (now (words .entry)) ⌝ }
@@ -106,9 +106,9 @@ pub fn make(edit: Edit, words: &mut [Word], sdid: Sdid, free: Free, limit: u64) 
         more: limit,
         last: 0,
     };
-    let went = store_blocks(edit, words, free, start);
-    let rest = went.left;
-    let all = went.all;
+    let progress = store_range(edit, words, free, start);
+    let rest = progress.left;
+    let all = progress.all;
     if all {
         let count = limit - rest.more;
         let fence = fence_of(edit, words, sdid, count, true, rest.last);

@@ -22,13 +22,13 @@ ghost use mathlib.Core.Bool.{true};
 ghost use mathlib.Core.List.{List, [], _∷_};
 ghost use Prim.Native.Nat.{ℕ, _+_, _-_, _*_, _≤_, _<_};
 ghost use Rattle.table.specs.Board.{BLOCKS, WORDS, FIELDS, frameOf};
-ghost use Rattle.entries.specs.Ahead.{Ahead};
-ghost use Rattle.entries.specs.Pages.{Plain, newRun};
-ghost use Rattle.entries.specs.Run.{out, run};
+ghost use Rattle.shapes.specs.Ahead.{Ahead};
+ghost use Rattle.shapes.specs.Pages.{Plain, newRun};
+ghost use Rattle.shapes.specs.Run.{out, run};
 ghost use Rattle.range.specs.EntryBounds.{Past};
 ghost use Rattle.model.specs.Forms.{l1Word};
-ghost use Rattle.forms.specs.Permissions.{oldWord};
-ghost use Rattle.model.specs.Frame as frame;
+ghost use Rattle.types.specs.declared.Frame.{Frame};
+ghost use Rattle.shapes.specs.Words.{oldWord};
 ghost use Rattle.model.specs.Frame.{lent};
 ghost use Rattle.model.specs.Stores.{Store, storeAt, newTable};
 ghost use Rattle.types.specs.Views.{entryOf, requestOf};
@@ -64,11 +64,11 @@ fn new_entries(
 {
     let mut more = left;
     for i in from..to {
-        let went = new_entry(edit, words, new, i, more);
-        if !went.all {
-            return went;
+        let progress = new_entry(edit, words, new, i, more);
+        if !progress.all {
+            return progress;
         }
-        let rest = went.left;
+        let rest = progress.left;
         more = rest;
     }
     Progress {
@@ -80,7 +80,7 @@ fn new_entries(
 // Where the entries from i on stop being the same word, if the edit leaves them as they are: `to` at the latest.
 fn same_until(e: Entry, i: u64, to: u64) -> u64
     requires { ⌜ (i < to) × (to ≤ WORDS) ⌝ }
-    ensures { λ r. ⌜ (i < r) × (r ≤ to) × ((F : frame.Frame) (m : List ℕ) (k : ℕ) → i ≤ k → k < r → oldWord F m (entryOf e) k ≡ oldWord F m (entryOf e) i) ⌝ }
+    ensures { λ r. ⌜ (i < r) × (r ≤ to) × ((f : Frame) (m : List ℕ) (k : ℕ) → i ≤ k → k < r → oldWord (frameOf f m) m (entryOf e) k ≡ oldWord (frameOf f m) m (entryOf e) i) ⌝ }
 {
     let piece = (i / PIECE_WORDS + 1) * PIECE_WORDS;
     match e {
@@ -140,11 +140,11 @@ fn old_entries(
     let mut i = from;
     while i < to {
         let end = same_until(e, i, to);
-        let went = old_fill(edit, words, new, i, end, more);
-        if !went.all {
-            return went;
+        let progress = old_fill(edit, words, new, i, end, more);
+        if !progress.all {
+            return progress;
         }
-        let rest = went.left;
+        let rest = progress.left;
         more = rest;
         i = end;
     }

@@ -17,8 +17,8 @@ ghost use mathlib.Core.Path.{_≡_};
 ghost use mathlib.Core.List.{List};
 ghost use Prim.Native.Nat.{_<_};
 ghost use Rattle.table.specs.Board.{BLOCKS, WORDS, frameOf};
-ghost use Rattle.entries.specs.Ahead.{Ahead};
-ghost use Rattle.entries.specs.Run.{out, run};
+ghost use Rattle.shapes.specs.Ahead.{Ahead};
+ghost use Rattle.shapes.specs.Run.{out, run};
 ghost use Rattle.types.specs.Range.{Fair};
 ghost use Rattle.model.specs.Forms.{l1Word};
 ghost use Rattle.model.specs.Stores.{Store, ifChanged, sameTable};
@@ -56,11 +56,11 @@ fn same_table(edit: Edit, words: &mut [Word], t: PageNumber, b: u64, left: Budge
     let to = past_entry(edit.q, b);
     let mut more = left;
     for i in from..to {
-        let went = same_entry(edit, words, t, b, i, more);
-        if !went.all {
-            return went;
+        let progress = same_entry(edit, words, t, b, i, more);
+        if !progress.all {
+            return progress;
         }
-        let rest = went.left;
+        let rest = progress.left;
         more = rest;
     }
     Progress {

@@ -9,8 +9,8 @@ ghost use mathlib.Core.List.{List, [], _∷_};
 ghost use Prim.Native.Nat.{_<_};
 ghost use lib.Dec.{eqb};
 ghost use lib.ListN.{length, getD};
-ghost use Rattle.entries.specs.Ahead.{Ahead, Turned};
-ghost use Rattle.entries.specs.Run.{allMade, out, run};
+ghost use Rattle.shapes.specs.Ahead.{Ahead, Turned};
+ghost use Rattle.shapes.specs.Run.{allMade, out, run};
 ghost use Rattle.table.specs.Stored.{storeOf};
 ghost use Rattle.model.specs.Stores.{Store};
 

@@ -18,9 +18,10 @@ ghost use lib.ListN.{length, getD};
 ghost use Rattle.model.specs.Layout.{gibBlocks};
 ghost use Rattle.model.specs.Numbers.{every};
 ghost use Rattle.model.specs.Stores.{Store};
-ghost use Rattle.entries.specs.Ahead.{Ahead};
-ghost use Rattle.entries.specs.Run.{allMade, out, run};
-ghost use Rattle.entries.specs.Rows.{rowStores, fillStores, differs, piecesWord, PiecesAhead};
+ghost use Rattle.shapes.specs.Ahead.{Ahead};
+ghost use Rattle.shapes.specs.Run.{allMade, out, run};
+ghost use Rattle.shapes.specs.Rows.{rowStores, fillStores, differs, piecesWord, PiecesAhead};
+ghost use Rattle.table.specs.Board.{board};
 
 // The n words from at, where as many stores may be made: nothing is asked between them.
 pub fn fill(words: &mut [Word], at: usize, n: usize, word: Word, left: Budget) -> Budget
@@ -57,11 +58,11 @@ fn flat_row(words: &mut [Word], at: usize, n: usize, word: Word, left: Budget) -
 {
     let mut more = left;
     for i in 0..n {
-        let went = put_changed(words, more, at + i, word);
-        if !went.all {
-            return went;
+        let progress = put_changed(words, more, at + i, word);
+        if !progress.all {
+            return progress;
         }
-        let rest = went.left;
+        let rest = progress.left;
         more = rest;
     }
     Progress {
@@ -95,7 +96,7 @@ pub fn flat_entries(words: &mut [Word], at: usize, n: usize, word: Word, left: B
 
 // The entry by pieces that says the same as an entry without an L1 page; zero for any other.
 fn pieces_word(word: Word) -> Word
-    ensures { λ r. ⌜ r ≡ piecesWord word ⌝ }
+    ensures { λ r. ⌜ r ≡ piecesWord board word ⌝ }
 {
     match decode(word) {
         Entry::Flat(p) => narrow(PIECE_ENTRY + p * EACH_PIECE),
@@ -107,9 +108,9 @@ fn pieces_word(word: Word) -> Word
 
 // The words from at, n at the most, are to say the same by TYPE 6. An entry with an L1 page ends the row.
 pub fn pieces_row(words: &mut [Word], at: usize, n: usize, left: Budget) -> RowProgress
-    requires { ⌜ (at + n ≤ length (now words)) × PiecesAhead (now words) n at ⌝ }
-    ensures { λ r. ⌜ (r .count ≤ n) × ((k : ℕ) → at ≤ k → k < at + r .count → piecesWord (getD (now (words .entry)) k 0) ≡ 0 → ⊥)
-        × (out (r .all) (r .left) (now (words .exit)) ≡ run left (rowStores (now (words .entry)) piecesWord (r .count) at) (now (words .entry))) ⌝ }
+    requires { ⌜ (at + n ≤ length (now words)) × PiecesAhead board (now words) n at ⌝ }
+    ensures { λ r. ⌜ (r .count ≤ n) × ((k : ℕ) → at ≤ k → k < at + r .count → piecesWord board (getD (now (words .entry)) k 0) ≡ 0 → ⊥)
+        × (out (r .all) (r .left) (now (words .exit)) ≡ run left (rowStores (now (words .entry)) (piecesWord board) (r .count) at) (now (words .entry))) ⌝ }
 {
     let mut more = left;
     for i in 0..n {
@@ -121,9 +122,9 @@ pub fn pieces_row(words: &mut [Word], at: usize, n: usize, left: Budget) -> RowP
                 count: i,
             };
         }
-        let went = put_changed(words, more, at + i, word);
-        let rest = went.left;
-        if !went.all {
+        let progress = put_changed(words, more, at + i, word);
+        let rest = progress.left;
+        if !progress.all {
             return RowProgress {
                 all: false,
                 left: rest,

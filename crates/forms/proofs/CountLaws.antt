@@ -9,9 +9,8 @@ use Rattle.model.specs.Frame.{Frame, blocks}
 use Rattle.shapes.proofs.CountLaws as counts
 use Rattle.shapes.proofs.CountLaws.{pagesAt, lowBlock, highBlock}
 use Rattle.table.specs.Board.{PIECEBYTES, frameOf}
-use Rattle.forms.specs.Permissions.{Ranged, wholePages}
+use Rattle.shapes.specs.Blocks.{Ranged, wholePages}
 use Rattle.forms.proofs.BoardShape.{board-shape}
-pub use Rattle.shapes.specs.Blocks.{formOfBlock}
 pub use Rattle.shapes.proofs.CountLaws.{table-none}
 
 module _ (f : code.Frame) (m : List ℕ) (q : Request) (root : ℕ) (r : Ranged (frameOf f m) m q root) where

@@ -6,7 +6,7 @@ use Prim.Native.Nat.{ℕ, suc, _+_, _*_, _-_, _%_, _≤_, _<_}
 use native.Mathlib.Omega.{arith}
 use lib.Dec.{eqb}
 use Rattle.table.specs.Board.{board, WORDS, FIELDS, PIECES, PIECE, ROW, ENTRY, EACH}
-use Rattle.forms.specs.Permissions.{oldWord, mixedAt}
+use Rattle.shapes.specs.Words.{oldWord, mixedAt}
 use Rattle.model.specs.Entry.{Entry}
 use Rattle.model.specs.Forms.{Request, inRange, afterIn, allAre, l1Word}
 use Rattle.model.specs.Frame.{Frame}

@@ -12,7 +12,7 @@ use Rattle.types.specs.Range.{Cut}
 use Rattle.shapes.proofs.EvenLaws as evens
 use Rattle.shapes.specs.Rooted.{Good}
 use Rattle.table.specs.Board.{board, PIECES, PIECE, INFO, EACHPIECE}
-use Rattle.forms.specs.Permissions.{Even, Mixes}
+use Rattle.shapes.specs.Blocks.{Even, Mixes}
 use Rattle.forms.proofs.BoardShape.{board-shape}
 pub use Rattle.shapes.proofs.EvenLaws.{even-flat}
 
@@ -24,15 +24,15 @@ module _ (paw first pages : ℕ) (m : List ℕ) where
     pub even-empty : (q .start + 4095) / 4096 ≡ (q .start + q .size + 4095) / 4096 → wantPieces info ≡ formIn F m q false 0 e b
     even-empty = evens.even-empty F board-shape m q low e g b info fits even
 
-    pub even-spliced : Mixes q b info ((q .start + 4095) / 4096) false → Mixes q b info ((q .start + q .size + 4095) / 4096) false
+    pub even-spliced : Mixes board q b info ((q .start + 4095) / 4096) false → Mixes board q b info ((q .start + q .size + 4095) / 4096) false
         → (lo hi : ℕ) → Cut (((q .start + 4095) / 4096 + (PIECE - 1)) / PIECE) (b * PIECES) PIECES lo → Cut (((q .start + q .size + 4095) / 4096 + (PIECE - 1)) / PIECE) (b * PIECES) PIECES hi
         → wantPieces (spliced 4 hi (spliced 4 lo info (q .permission * EACHPIECE)) info) ≡ formIn F m q false 0 e b
     even-spliced = evens.even-spliced F board-shape m q low e g b info fits even
 
-    pub mixed-first : ((q .start + 4095) / 4096 ≡ (q .start + q .size + 4095) / 4096 → ⊥) → Mixes q b info ((q .start + 4095) / 4096) true → wantTable ≡ formIn F m q false 0 e b
+    pub mixed-first : ((q .start + 4095) / 4096 ≡ (q .start + q .size + 4095) / 4096 → ⊥) → Mixes board q b info ((q .start + 4095) / 4096) true → wantTable ≡ formIn F m q false 0 e b
     mixed-first = evens.mixed-first F board-shape m q low e g b info fits even
 
-    pub mixed-past : ((q .start + 4095) / 4096 ≡ (q .start + q .size + 4095) / 4096 → ⊥) → Mixes q b info ((q .start + q .size + 4095) / 4096) true → wantTable ≡ formIn F m q false 0 e b
+    pub mixed-past : ((q .start + 4095) / 4096 ≡ (q .start + q .size + 4095) / 4096 → ⊥) → Mixes board q b info ((q .start + q .size + 4095) / 4096) true → wantTable ≡ formIn F m q false 0 e b
     mixed-past = evens.mixed-past F board-shape m q low e g b info fits even
 
     pub even-is : (p : ℕ) → p < 4 → ((k : ℕ) → b * 8192 ≤ k → k < b * 8192 + 8192 → inRange q k ≡ false) → eqb info (p * EACHPIECE) ≡ allAre F m q e p 8192 (b * 8192)

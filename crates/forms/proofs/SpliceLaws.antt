@@ -6,10 +6,10 @@ use Rattle.model.specs.Forms.{Request}
 use Rattle.model.specs.Numbers.{pack}
 use Rattle.types.specs.Range.{Cut}
 use Rattle.shapes.proofs.SpliceLaws as splices
-use Rattle.table.specs.Board.{FIELDS, ENTRY}
-use Rattle.forms.specs.Permissions.{spreadOf, mixedAt}
+use Rattle.table.specs.Board.{board, FIELDS, ENTRY}
+use Rattle.shapes.specs.Words.{spreadOf, mixedAt}
 pub use Rattle.shapes.proofs.SpliceLaws.{splice-bits}
 
 pub mixed-spliced : (q : Request) (s lo hi : ℕ) → Cut ((q .start + 4095) / 4096) s FIELDS lo → Cut ((q .start + q .size + 4095) / 4096) s FIELDS hi → (old : ℕ) → old < ENTRY → q .permission < 4
-    → spliced 16 hi (spliced 16 lo old (spreadOf (q .permission))) old ≡ pack 16 (mixedAt q old s) FIELDS s
+    → spliced 16 hi (spliced 16 lo old (spreadOf board (q .permission))) old ≡ pack 16 (mixedAt q old s) FIELDS s
 mixed-spliced q s lo hi = splices.mixed-spliced q

@@ -18,15 +18,15 @@ ghost use mathlib.Core.Path.{_≡_};
 ghost use mathlib.Core.Bool.{false};
 ghost use Prim.Native.Nat.{_<_, _^_};
 ghost use Rattle.types.specs.Range.{Fair};
-ghost use Rattle.table.specs.Board.{BLOCKS, INFO, frameOf};
-ghost use Rattle.forms.specs.Permissions.{Even, Mixes};
+ghost use Rattle.table.specs.Board.{board, BLOCKS, INFO, frameOf};
+ghost use Rattle.shapes.specs.Blocks.{Even, Mixes};
 ghost use Rattle.model.specs.Forms.{formIn};
 ghost use Rattle.types.specs.Views.{entryOf, requestOf, formOf};
 ghost use Rattle.shapes.specs.Rooted.{Good};
 
 // A piece with pages in the range and pages outside it becomes mixed, unless it has the asked permission already.
 fn mixes(q: Request, b: u64, info: u64, at: u64) -> bool
-    ensures { λ r. ⌜ Mixes (requestOf q) b info at r ⌝ }
+    ensures { λ r. ⌜ Mixes board (requestOf q) b info at r ⌝ }
 {
     if at % PIECE_PAGES == 0 {
         return false;

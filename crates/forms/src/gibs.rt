@@ -25,7 +25,7 @@ ghost use lib.Dec.{eqb};
 ghost use Prim.Native.Nat.{_+_, _*_, _/_, _%_, _≤_, _<_};
 ghost use Rattle.types.specs.Range.{Fair};
 ghost use Rattle.table.specs.Board.{PIECEBYTES, frameOf};
-ghost use Rattle.forms.specs.Permissions.{GibIs, Ranged, wholePages};
+ghost use Rattle.shapes.specs.Blocks.{GibIs, Ranged, wholePages};
 ghost use Rattle.model.specs.Forms.{formIn, gibFirst, gibIsOne};
 ghost use Rattle.model.specs.Frame.{blocks};
 ghost use Rattle.model.specs.Stores.{needsPage};

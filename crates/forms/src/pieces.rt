@@ -24,7 +24,7 @@ ghost use lib.Dec.{eqb};
 ghost use lib.ListN.{length, getD};
 ghost use Rattle.types.specs.Range.{Fair, Lies};
 ghost use Rattle.table.specs.Board.{BLOCKS, WORDS, FIELDS, PIECES, PIECE, ROW, frameOf};
-ghost use Rattle.forms.specs.Permissions.{PieceIs};
+ghost use Rattle.shapes.specs.Blocks.{PieceIs};
 ghost use Rattle.model.specs.Forms.{allAre, afterIn};
 ghost use Rattle.model.specs.Numbers.{every};
 ghost use Rattle.types.specs.Views.{entryOf, requestOf};

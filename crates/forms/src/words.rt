@@ -21,8 +21,8 @@ use types::pages::lies;
 ghost use mathlib.Core.Path.{_≡_};
 ghost use Prim.Native.Nat.{_+_, _*_, _/_, _%_, _≤_, _<_, _^_};
 ghost use Rattle.types.specs.Range.{Fair};
-ghost use Rattle.table.specs.Board.{BLOCKS, WORDS, FIELDS, frameOf};
-ghost use Rattle.forms.specs.Permissions.{spreadOf, oldWord, mixedAt};
+ghost use Rattle.table.specs.Board.{board, BLOCKS, WORDS, FIELDS, frameOf};
+ghost use Rattle.shapes.specs.Words.{spreadOf, oldWord, mixedAt};
 ghost use Rattle.model.specs.Forms.{l1Word};
 ghost use Rattle.model.specs.Numbers.{pack};
 ghost use Rattle.types.specs.Views.{entryOf, requestOf};
@@ -31,7 +31,7 @@ ghost use Rattle.shapes.specs.Rooted.{Good};
 // An L1 entry whose fields are all p.
 pub fn spread(p: u64) -> Word
     requires { ⌜ p < 4 ⌝ }
-    ensures { λ r. ⌜ r ≡ spreadOf p ⌝ }
+    ensures { λ r. ⌜ r ≡ spreadOf board p ⌝ }
 {
     narrow(p * EACH_FIELD)
 }

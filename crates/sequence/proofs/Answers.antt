@@ -1,4 +1,5 @@
--- From the stores that were made to the answer.
+-- From the stores that were made to the answer: a run of the whole list says how many were made and whether that was all, and that decides the
+-- memory, the count and the fence.
 use mathlib.Core.Path.{_≡_, refl, sym, ap, ap₂, _∙_}
 use mathlib.Core.Bool.{Bool, true, false, not, _&&_}
 use mathlib.Core.List.{List, [], _∷_}
@@ -9,16 +10,16 @@ use lib.ListN.{length, take}
 use lib.Seq.{getD-take, length-take-le, take-all}
 use borrow.Author.Tests.{le-leb, lt-leb, ne-eqb}
 use Rattle.model.specs.Calls.{finished, rootOf, storeList, storeListWith}
-use Rattle.entries.proofs.Runs.{run-whole, run-short}
+use Rattle.shapes.proofs.Runs.{run-whole, run-short}
 use Rattle.sequence.specs.Made.{fenceAfter}
 use Rattle.sequence.specs.Blocks.{wholeList}
-use Rattle.entries.specs.Run.{allMade, limitReached, runFrom, run}
+use Rattle.shapes.specs.Run.{allMade, limitReached, runFrom, run}
 use Rattle.types.specs.declared.Budget.{Budget}
 use Rattle.laws.proofs.Choices.{split}
 use Rattle.model.specs.Fence.{noFence, domainFence, addressFence, inRoot, oneL1Store, fenceFor}
 use Rattle.model.specs.Forms.{Request, firstGib, forms}
 use Rattle.model.specs.Frame.{Frame}
-use Rattle.model.specs.Layout.{gibBlocks}
+use Rattle.model.specs.Layout.{gibBlocks, pageBytes}
 use Rattle.model.specs.Numbers.{if_then_else_}
 use Rattle.model.specs.Sound.{roots, freePages}
 use Rattle.model.specs.Stores.{Store, apply, newPages}
@@ -55,8 +56,8 @@ module _ (F : Frame) (q : Request) (root sdid : ℕ) (list : List Store) (limit 
     unfolding fenceAfter fenceFor
     all-fence =
         let z : limit - l .more ≡ length list = omega (arith, all-fits) in
-        ap (λ (c : ℕ). if eqb c 0 then noFence else if eqb (q .size) 4096 && (eqb c 1 && (true && not (inRoot F root (l .last)))) then addressFence (q .start) sdid else domainFence sdid) z
-        ∙ ap₂ (λ (c : ℕ) (o : Bool). if eqb c 0 then noFence else if eqb (q .size) 4096 && o then addressFence (q .start) sdid else domainFence sdid)
+        ap (λ (c : ℕ). if eqb c 0 then noFence else if eqb (q .size) pageBytes && (eqb c 1 && (true && not (inRoot F root (l .last)))) then addressFence (q .start) sdid else domainFence sdid) z
+        ∙ ap₂ (λ (c : ℕ) (o : Bool). if eqb c 0 then noFence else if eqb (q .size) pageBytes && o then addressFence (q .start) sdid else domainFence sdid)
         (sym z ∙ all-count) (one-here list refl)
 
   -- the limit cut them
@@ -90,7 +91,7 @@ module _ (F : Frame) (q : Request) (root sdid : ℕ) (list : List Store) (limit 
         split (eqb limit 0)
         (λ z. rw (sym cut-count, z))
         (λ z. rw (sym cut-count, z, many list (omega (arith, few, borrow.Author.Tests.eqb-false limit 0 z)))
-        (ap (λ (b : Bool). if b then addressFence (q .start) sdid else domainFence sdid) (no-and (eqb (q .size) 4096) (eqb limit 1))))
+        (ap (λ (b : Bool). if b then addressFence (q .start) sdid else domainFence sdid) (no-and (eqb (q .size) pageBytes) (eqb limit 1))))
 
 -- ---- the list in the model's own words: the two lowest free pages stand for all
 

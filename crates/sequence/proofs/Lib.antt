@@ -1,12 +1,12 @@
---   BlockRows       several blocks of one GiB at once
 --   Answers         from the stores that were made to the answer
 --   Facts           what is known of an accepted edit
---   Invariant       the blocks of an edit, one after another
---   Steps           several blocks of an edit at once
---   LoopInvariant   the loop over the blocks
-pub mod BlockRows
+--   AtBlock         an edit between two of its blocks
+--   NextBlock       one more block
+--   GibBlockLaws    several blocks of one GiB
+--   LoopInvariant   the loop over the blocks, in the code's words
 pub mod Answers
 pub mod Facts
-pub mod Invariant
-pub mod Steps
+pub mod AtBlock
+pub mod NextBlock
+pub mod GibBlockLaws
 pub mod LoopInvariant

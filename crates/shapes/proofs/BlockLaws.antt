@@ -3,7 +3,7 @@
 use mathlib.Core.Path.{_≡_, refl, sym, ap, ap₂, _∙_}
 use mathlib.Core.Bool.{Bool, true, false}
 use mathlib.Core.List.{List, [], _∷_, _++_, append-assoc, append-nil, headD, tail}
-use Prim.Native.Nat.{ℕ, zero, suc, _+_, _*_, _^_, _≤_, _<_}
+use Prim.Native.Nat.{ℕ, zero, suc, _+_, _*_, _-_, _^_, _≤_, _<_}
 use native.Mathlib.Nat.{zero-add}
 use native.Mathlib.Omega.{arith}
 use lib.Dec.{eqb}
@@ -18,6 +18,8 @@ use Rattle.model.specs.Numbers.{if_then_else_, joined}
 use Rattle.model.specs.Stores.{Store, storeAt, storeL2, ifChangedL2, blockStores, needsPage, newPages, storesFrom}
 use Rattle.model.specs.Walk.{entryAt, entryPage, entryPlace, l2Word}
 use Rattle.theory.proofs.Entries.{Small, decode-small}
+use Rattle.types.specs.declared.Gib.{Gib}
+use Rattle.shapes.specs.Ahead.{Ahead}
 use Rattle.shapes.specs.Rooted.{Good}
 use Rattle.shapes.specs.Words.{flatInfo}
 use Rattle.shapes.specs.Blocks.{formAt, storesAt, storesOver, pagesOver, Encodes}
@@ -25,6 +27,7 @@ use Rattle.shapes.specs.Rows.{changeAt, rowStores, piecesOf, piecesWord}
 use Rattle.shapes.proofs.Shape.{Shape}
 use Rattle.shapes.proofs.EntryLaws.{after-small}
 use Rattle.shapes.proofs.FormLaws.{form-flat-out, form-pieces-out, form-not}
+use Rattle.shapes.proofs.Order.{ahead-of, ahead-first}
 use Rattle.shapes.proofs.PageLaws.{index-next}
 
 -- a form's entry fits a word
@@ -42,40 +45,46 @@ pub changed-l2 : (F : Frame) (m : List ℕ) (root b w at : ℕ) → at ≡ index
 unfolding ifChangedL2 l2Word wordAt storeL2 storeAt entryPage entryPlace
 changed-l2 F m root b w at e = ap (λ (k : ℕ). if eqb (getD m k 0) w then [] else record { at = k; word = w } ∷ []) e
 
-module _ (F : Frame) (m : List ℕ) (q : Request) (root : ℕ) (one : Bool) (p : ℕ) where
+module _ (F : Frame) (m : List ℕ) (q : Request) (root : ℕ) (gib : Gib) where
   -- ---- one block
 
-  pub over-one : (b : ℕ) (fr : List ℕ) → storesOver F m q root one p 1 b fr ≡ storesAt F m q root one p b (headD fr 0)
+  pub over-one : (b : ℕ) (fr : List ℕ) → storesOver F m q root gib 1 b fr ≡ storesAt F m q root gib b (headD fr 0)
   unfolding storesFrom formsIn
-  over-one b fr = append-nil (storesAt F m q root one p b (headD fr 0))
+  over-one b fr = append-nil (storesAt F m q root gib b (headD fr 0))
 
-  pub pages-one : (b next : ℕ) → next + pagesOver F m q root one p 1 b ≡ (if needsPage (formAt F m q root one p b) (entryAt F m root b) then next + 1 else next)
+  pub pages-one : (b next : ℕ) → next + pagesOver F m q root gib 1 b ≡ (if needsPage (formAt F m q root gib b) (entryAt F m root b) then next + 1 else next)
   unfolding newPages formsIn
-  pages-one b next = split (needsPage (formAt F m q root one p b) (entryAt F m root b)) (λ z. rw z (omega arith)) (λ z. rw z (omega arith))
+  pages-one b next = split (needsPage (formAt F m q root gib b) (entryAt F m root b)) (λ z. rw z (omega arith)) (λ z. rw z (omega arith))
 
   -- ---- the first c of several
 
-  pub over-first : (c d b : ℕ) (fr : List ℕ) → (rest : List Store) × (storesOver F m q root one p (c + d) b fr ≡ storesOver F m q root one p c b fr ++ rest)
+  over-first : (c d b : ℕ) (fr : List ℕ) → (rest : List Store) × (storesOver F m q root gib (c + d) b fr ≡ storesOver F m q root gib c b fr ++ rest)
   unfolding storesFrom formsIn
-  over-first zero d b fr = (storesOver F m q root one p (0 + d) b fr, refl)
+  over-first zero d b fr = (storesOver F m q root gib (0 + d) b fr, refl)
   over-first (suc c) d b fr =
-      let new : List Store = storesAt F m q root one p b (headD fr 0) in
-      let fr′ : List ℕ = if needsPage (formAt F m q root one p b) (entryAt F m root b) then tail fr else fr in
+      let new : List Store = storesAt F m q root gib b (headD fr 0) in
+      let fr′ : List ℕ = if needsPage (formAt F m q root gib b) (entryAt F m root b) then tail fr else fr in
       let more = over-first c d (suc b) fr′ in
       let u : suc c + d ≡ suc (c + d) = omega arith in (
         more .0,
-        ap (λ (n : ℕ). storesOver F m q root one p n b fr) u ∙ ap (λ (l : List Store). new ++ l) (more .1) ∙ sym (append-assoc new (storesOver F m q root one p c (suc b) fr′) (more .0)),
+        ap (λ (n : ℕ). storesOver F m q root gib n b fr) u ∙ ap (λ (l : List Store). new ++ l) (more .1) ∙ sym (append-assoc new (storesOver F m q root gib c (suc b) fr′) (more .0)),
       )
+
+  pub ahead-over : (c n b : ℕ) (fr : List ℕ) → c ≤ n → Ahead m (storesOver F m q root gib n b fr) → Ahead m (storesOver F m q root gib c b fr)
+  ahead-over c n b fr h a =
+      let u : n ≡ c + (n - c) = omega arith in
+      let f = over-first c (n - c) b fr in
+      ahead-first _ (f .0) (ahead-of (ap (λ (k : ℕ). storesOver F m q root gib k b fr) u ∙ f .1) a)
 
   -- ---- a row
 
   -- block c has one store at the most: its entry becomes what `to` makes of it
   pub record Entrywise (to : ℕ → ℕ) (c : ℕ) : Type 0 where
-    pub stores : (new : ℕ) → storesAt F m q root one p c new ≡ ifChangedL2 F m root c (to (l2Word F m root c))
-    pub page : needsPage (formAt F m q root one p c) (entryAt F m root c) ≡ false
+    pub stores : (new : ℕ) → storesAt F m q root gib c new ≡ ifChangedL2 F m root c (to (l2Word F m root c))
+    pub page : needsPage (formAt F m q root gib c) (entryAt F m root c) ≡ false
 
   module _ (to : ℕ → ℕ) where
-    pub row-stores : (n b : ℕ) (fr : List ℕ) → ((c : ℕ) → b ≤ c → c < b + n → Entrywise to c) → storesOver F m q root one p n b fr ≡ rowStores m to n (indexOf F root b)
+    pub row-stores : (n b : ℕ) (fr : List ℕ) → ((c : ℕ) → b ≤ c → c < b + n → Entrywise to c) → storesOver F m q root gib n b fr ≡ rowStores m to n (indexOf F root b)
     unfolding storesFrom formsIn joined l2Word wordAt entryPage entryPlace
     row-stores zero b fr h = refl
     row-stores (suc n) b fr h =
@@ -84,39 +93,43 @@ module _ (F : Frame) (m : List ℕ) (q : Request) (root : ℕ) (one : Bool) (p :
         (e .stores (headD fr 0) ∙ sym (changed-l2 F m root b (to (l2Word F m root b)) (indexOf F root b) refl))
         (rw (e .page) (row-stores n (suc b) fr (λ c lo hi. h c (omega arith) (omega arith))) ∙ ap (joined (changeAt m to) n) (sym (index-next F root b)))
 
-    pub row-pages : (n b : ℕ) → ((c : ℕ) → b ≤ c → c < b + n → Entrywise to c) → pagesOver F m q root one p n b ≡ 0
+    pub row-pages : (n b : ℕ) → ((c : ℕ) → b ≤ c → c < b + n → Entrywise to c) → pagesOver F m q root gib n b ≡ 0
     unfolding newPages formsIn
     row-pages zero b h = refl
     row-pages (suc n) b h = rw (h b (omega arith) (omega arith) .page) (zero-add _ ∙ row-pages n (suc b) (λ c lo hi. h c (omega arith) (omega arith)))
 
 -- ---- the two kinds of row
 
--- a GiB of one permission
-pub flat-entry : (F : Frame) (m : List ℕ) (q : Request) (root p c : ℕ) → Entrywise F m q root true p (λ w. p * 2 ^ F .layout .infoBits) c
-unfolding formIn blockStores needsPage encode
-flat-entry F m q root p c = record { stores = λ new. refl; page = refl }
+module _ (F : Frame) (m : List ℕ) (q : Request) (root : ℕ) (gib : Gib) where
+  -- a GiB of one permission
+  pub flat-entry : gib .one ≡ true → (c : ℕ) → Entrywise F m q root gib (λ w. gib .p * 2 ^ F .layout .infoBits) c
+  unfolding formIn blockStores needsPage encode
+  flat-entry z c = record { stores = λ new. rw z; page = rw z }
 
--- outside the range, in a GiB that is not: an entry without an L1 page
-pub pieces-entry : (F : Frame) (sh : Shape (F .layout)) (m : List ℕ) (q : Request) (root p : ℕ) → q .permission < 4 → lent F root ≡ true → (c : ℕ) → Good F m (entryAt F m root c)
-    → ((k : ℕ) → c * blockPages ≤ k → k < c * blockPages + blockPages → inRange q k ≡ false) → (piecesWord (F .layout) (getD m (indexOf F root c) 0) ≡ 0 → ⊥)
-    → Entrywise F m q root false p (piecesWord (F .layout)) c
-unfolding entryAt l2Word wordAt entryPage entryPlace needsPage blockStores encode
-pieces-entry F sh m q root p low ro c g o some = go (decode (F .layout) (l2Word F m root c)) refl (decode-small (F .layout) (sh .lawful) (l2Word F m root c))
-  where
+  -- outside the range, in a GiB that is not: an entry without an L1 page
+  module _ (sh : Shape (F .layout)) (low : q .permission < 4) (mixed : gib .one ≡ false) (ro : lent F root ≡ true) (c : ℕ) (g : Good F m (entryAt F m root c))
+      (o : (k : ℕ) → c * blockPages ≤ k → k < c * blockPages + blockPages → inRange q k ≡ false) (some : piecesWord (F .layout) (getD m (indexOf F root c) 0) ≡ 0 → ⊥) where
     said : entryAt F m root c ≡ decode (F .layout) (l2Word F m root c)
+    unfolding entryAt l2Word wordAt entryPage entryPlace
     said = rw ro refl
 
     made : (info : ℕ) → wantPieces info ≡ formIn F m q false 0 (entryAt F m root c) c → piecesWord (F .layout) (l2Word F m root c) ≡ F .layout .pieceType * 2 ^ F .layout .infoBits + info
-        → Entrywise F m q root false p (piecesWord (F .layout)) c
+        → Entrywise F m q root gib (piecesWord (F .layout)) c
+    unfolding needsPage blockStores encode
     made info z w =
-        let form : formAt F m q root false p c ≡ wantPieces info = sym (z ∙ form-not F m q (entryAt F m root c) c p) in
+        let form : formAt F m q root gib c ≡ wantPieces info
+        = ap (λ (x : Bool). formIn F m q x (gib .p) (entryAt F m root c) c) mixed ∙ sym (z ∙ form-not F m q (entryAt F m root c) c (gib .p)) in
         record {
           stores = λ new. ap (λ (x : Form). blockStores F m q root x (entryAt F m root c) c new) form ∙ ap (ifChangedL2 F m root c) (sym w);
           page = ap (λ (x : Form). needsPage x (entryAt F m root c)) form;
         }
 
-    go : (e : Entry) → decode (F .layout) (l2Word F m root c) ≡ e → Small (F .layout) (sh .lawful) e → Entrywise F m q root false p (piecesWord (F .layout)) c
-    go (flat x) z s = made (flatInfo (F .layout) x) (form-flat-out F sh m q low (entryAt F m root c) g c o x (said ∙ z)) (ap (piecesOf (F .layout)) z)
-    go (pieces x) z s = made x (form-pieces-out F sh m q low (entryAt F m root c) g c o x (said ∙ z) s) (ap (piecesOf (F .layout)) z)
-    go (table t) z s = absurd (some (ap (piecesOf (F .layout)) z))
-    go invalid z s = absurd (some (ap (piecesOf (F .layout)) z))
+    pub pieces-entry : Entrywise F m q root gib (piecesWord (F .layout)) c
+    unfolding l2Word wordAt entryPage entryPlace
+    pieces-entry = go (decode (F .layout) (l2Word F m root c)) refl (decode-small (F .layout) (sh .lawful) (l2Word F m root c))
+      where
+        go : (e : Entry) → decode (F .layout) (l2Word F m root c) ≡ e → Small (F .layout) (sh .lawful) e → Entrywise F m q root gib (piecesWord (F .layout)) c
+        go (flat x) z s = made (flatInfo (F .layout) x) (form-flat-out F sh m q low (entryAt F m root c) g c o x (said ∙ z)) (ap (piecesOf (F .layout)) z)
+        go (pieces x) z s = made x (form-pieces-out F sh m q low (entryAt F m root c) g c o x (said ∙ z) s) (ap (piecesOf (F .layout)) z)
+        go (table t) z s = absurd (some (ap (piecesOf (F .layout)) z))
+        go invalid z s = absurd (some (ap (piecesOf (F .layout)) z))

@@ -114,9 +114,9 @@ module _ (F : Frame) (sh : Shape (F .layout)) (m : List ℕ) where
 
     -- n pages by parts of a pages each, from part j on, which starts at s: the next part decides, or the rest does
     module _ (p a n j s t : ℕ) (h : j * a + a ≤ n) (next : t ≡ s + a) where
-      turn : allAre F m q e p (n - j * a) s ≡ (allAre F m q e p a s && allAre F m q e p (n - (j + 1) * a) t)
+      part-split : allAre F m q e p (n - j * a) s ≡ (allAre F m q e p a s && allAre F m q e p (n - (j + 1) * a) t)
       unfolding allAre
-      turn =
+      part-split =
           let test : ℕ → Bool = λ k. eqb (afterIn F m q e k) p in
           let x : n - j * a ≡ a + (n - (j + 1) * a) = omega (arith, add-mul j 1 a, one-mul a) in
           ap (λ (k : ℕ). every test k s) x
@@ -124,10 +124,10 @@ module _ (F : Frame) (sh : Shape (F .layout)) (m : List ℕ) where
           ∙ ap (λ (k : ℕ). every test a s && every test (n - (j + 1) * a) k) (sym next)
 
       part-next : allAre F m q e p a s ≡ true → allAre F m q e p (n - j * a) s ≡ allAre F m q e p (n - (j + 1) * a) t
-      part-next z = turn ∙ rw z
+      part-next z = part-split ∙ rw z
 
       part-stop : allAre F m q e p a s ≡ false → allAre F m q e p (n - j * a) s ≡ false
-      part-stop z = turn ∙ rw z
+      part-stop z = part-split ∙ rw z
 
     -- the entries of a piece, of which the first is entry i
     entry-after : (b i j : ℕ) → b * blockPages + (i + (j + 1)) * N ≡ b * blockPages + (i + j) * N + N

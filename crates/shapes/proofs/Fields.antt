@@ -97,8 +97,8 @@ field-clean L w i h l = rw (every-in (λ k. ltb (digit 16 w k) 4) (L .fields) 0 
 -- ---- a test of a run: what is left of it at i
 
 module _ (test : ℕ → Bool) (n s i : ℕ) (h : i < n) where
-  every-turn : every test (n - i) (s + i) ≡ (test (s + i) && every test (n - (i + 1)) (s + (i + 1)))
-  every-turn =
+  every-first : every test (n - i) (s + i) ≡ (test (s + i) && every test (n - (i + 1)) (s + (i + 1)))
+  every-first =
       let a : n - i ≡ suc (n - (i + 1)) = omega arith in
       let b : suc (s + i) ≡ s + (i + 1) = omega arith in
       ap (λ (k : ℕ). every test k (s + i)) a
@@ -106,10 +106,10 @@ module _ (test : ℕ → Bool) (n s i : ℕ) (h : i < n) where
       ∙ ap (λ (k : ℕ). test (s + i) && every test (n - (i + 1)) k) b
 
   pub every-next : test (s + i) ≡ true → every test (n - i) (s + i) ≡ every test (n - (i + 1)) (s + (i + 1))
-  every-next z = every-turn ∙ rw z
+  every-next z = every-first ∙ rw z
 
   pub every-stop : test (s + i) ≡ false → every test (n - i) (s + i) ≡ false
-  every-stop z = every-turn ∙ rw z
+  every-stop z = every-first ∙ rw z
 
 pub every-none : (test : ℕ → Bool) (n s : ℕ) → n ≡ 0 → every test n s ≡ true
 unfolding every

@@ -29,16 +29,16 @@ module _ (L : Layout) (sdid : ℕ) where
       go false = refl
 
   module _ (slots : List Slot) (i : ℕ) (h : i < length slots) where
-    turn : member sdid (openSdids L (drop i slots)) ≡ (holds L (getD slots i 0) sdid || member sdid (openSdids L (drop (i + 1) slots)))
-    turn =
+    held-next : member sdid (openSdids L (drop i slots)) ≡ (holds L (getD slots i 0) sdid || member sdid (openSdids L (drop (i + 1) slots)))
+    held-next =
         ap (λ (l : List Slot). member sdid (openSdids L l)) (drop-cons slots i 0 h ∙ ap (λ (n : ℕ). getD slots i 0 ∷ drop n slots) (sym (add-one i)))
         ∙ held-step (getD slots i 0) (drop (i + 1) slots)
 
     pub held-here : holds L (getD slots i 0) sdid ≡ true → member sdid (openSdids L (drop i slots)) ≡ true
-    held-here e = turn ∙ ap (λ (b : Bool). b || member sdid (openSdids L (drop (i + 1) slots))) e
+    held-here e = held-next ∙ ap (λ (b : Bool). b || member sdid (openSdids L (drop (i + 1) slots))) e
 
     pub held-later : holds L (getD slots i 0) sdid ≡ false → member sdid (openSdids L (drop i slots)) ≡ member sdid (openSdids L (drop (i + 1) slots))
-    held-later e = turn ∙ ap (λ (b : Bool). b || member sdid (openSdids L (drop (i + 1) slots))) e
+    held-later e = held-next ∙ ap (λ (b : Bool). b || member sdid (openSdids L (drop (i + 1) slots))) e
 
   pub held-by-none : (slots : List Slot) (i : ℕ) → length slots ≤ i → member sdid (openSdids L (drop i slots)) ≡ false
   unfolding openRegisters member

@@ -1,4 +1,4 @@
--- A block and a range: pieces that an end of the range cuts, pages that the whole edit takes.
+-- A block and a range: pieces that an end of the range cuts, blocks of one GiB, pages that the whole edit takes.
 use mathlib.Core.Path.{_≡_}
 use mathlib.Core.Bool.{Bool, true, false}
 use mathlib.Core.List.{List}
@@ -11,6 +11,8 @@ use Rattle.model.specs.Walk as walk
 use Rattle.model.specs.Forms as model
 use Rattle.model.specs.Stores as stores
 use Rattle.model.specs.Calls as calls
+use Rattle.types.specs.declared.Gib.{Gib}
+use Rattle.types.specs.declared.Piece.{Piece}
 use Rattle.shapes.specs.Rooted.{Rooted}
 
 -- before the edit each page of block b, whose entry is e, is of the permission that info has for its piece
@@ -28,21 +30,30 @@ Mixes L q b info at false = (i : ℕ) → i < L .pieces → b * blockPages + i *
 abbrev pub blockIs : frame.Frame → List ℕ → model.Request → ℕ → ℕ → ℕ → Bool
 blockIs F m q root p b = model.allAre F m q (walk.entryAt F m root b) p blockPages (b * blockPages)
 
--- ---- several blocks of one GiB, which is or is not of one permission, p
+-- what piece says is so of piece i of block b, whose entry is e
+abbrev pub PieceIs : frame.Frame → List ℕ → model.Request → entry.Entry → ℕ → ℕ → Piece → Type 0
+PieceIs F m q e b i piece =
+    (piece .p ≡ model.afterIn F m q e (model.pieceStart F b i)) × (piece .one ≡ model.allAre F m q e (piece .p) (piecePages (F .layout)) (model.pieceStart F b i)) × (piece .p < 4)
+
+-- ---- several blocks of one GiB, by what gib says of it
+
+-- what gib says is so of GiB g
+abbrev pub GibIs : frame.Frame → List ℕ → model.Request → ℕ → ℕ → Gib → Type 0
+GibIs F m q root g gib = (gib .p ≡ model.gibFirst F m q root g) × (gib .one ≡ model.gibIsOne F m q root g (gib .p)) × (gib .p < 4)
 
 -- the finished form of block b
-abbrev pub formAt : frame.Frame → List ℕ → model.Request → ℕ → Bool → ℕ → ℕ → model.Form
-formAt F m q root one p b = model.formIn F m q one p (walk.entryAt F m root b) b
+abbrev pub formAt : frame.Frame → List ℕ → model.Request → ℕ → Gib → ℕ → model.Form
+formAt F m q root gib b = model.formIn F m q (gib .one) (gib .p) (walk.entryAt F m root b) b
 
 -- its stores; and those of n blocks from b, with the free pages in order, and how many new pages they take
-abbrev pub storesAt : frame.Frame → List ℕ → model.Request → ℕ → Bool → ℕ → ℕ → ℕ → List stores.Store
-storesAt F m q root one p b new = stores.blockStores F m q root (formAt F m q root one p b) (walk.entryAt F m root b) b new
+abbrev pub storesAt : frame.Frame → List ℕ → model.Request → ℕ → Gib → ℕ → ℕ → List stores.Store
+storesAt F m q root gib b new = stores.blockStores F m q root (formAt F m q root gib b) (walk.entryAt F m root b) b new
 
-abbrev pub storesOver : frame.Frame → List ℕ → model.Request → ℕ → Bool → ℕ → ℕ → ℕ → List ℕ → List stores.Store
-storesOver F m q root one p n b free = stores.storesFrom F m q root b (model.formsIn F m q root one p n b) free
+abbrev pub storesOver : frame.Frame → List ℕ → model.Request → ℕ → Gib → ℕ → ℕ → List ℕ → List stores.Store
+storesOver F m q root gib n b free = stores.storesFrom F m q root b (model.formsIn F m q root (gib .one) (gib .p) n b) free
 
-abbrev pub pagesOver : frame.Frame → List ℕ → model.Request → ℕ → Bool → ℕ → ℕ → ℕ → ℕ
-pagesOver F m q root one p n b = stores.newPages F m root b (model.formsIn F m q root one p n b)
+abbrev pub pagesOver : frame.Frame → List ℕ → model.Request → ℕ → Gib → ℕ → ℕ → ℕ
+pagesOver F m q root gib n b = stores.newPages F m root b (model.formsIn F m q root (gib .one) (gib .p) n b)
 
 -- a form whose entry fits a word
 abbrev pub Encodes : Layout → model.Form → Type 0

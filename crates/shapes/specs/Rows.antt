@@ -1,7 +1,8 @@
 -- Rows of neighbouring words: each stored if it changes, or all stored.
+use mathlib.Core.Path.{_≡_}
 use mathlib.Core.Bool.{Bool, not}
 use mathlib.Core.List.{List, [], _∷_}
-use Prim.Native.Nat.{ℕ, _+_, _*_, _^_}
+use Prim.Native.Nat.{ℕ, _+_, _*_, _^_, _≤_, _<_}
 use lib.Dec.{eqb}
 use lib.ListN.{getD}
 use Rattle.model.specs.Numbers.{if_then_else_, joined}
@@ -9,6 +10,7 @@ use Rattle.model.specs.Layout.{Layout}
 use Rattle.model.specs.Entry as entry
 use Rattle.model.specs.Stores as stores
 use Rattle.shapes.specs.Words.{flatInfo}
+use Rattle.shapes.specs.Ahead.{Ahead}
 
 -- the store of word k, which is to become what `to` makes of it, if it changes; and those of n words from at
 abbrev pub changeAt : List ℕ → (ℕ → ℕ) → ℕ → List stores.Store
@@ -34,3 +36,8 @@ piecesOf L entry.invalid = 0
 
 abbrev pub piecesWord : Layout → ℕ → ℕ
 piecesWord L w = piecesOf L (entry.decode L w)
+
+-- ahead is the row of the words from at, n at the most, up to the first with an L1 page
+abbrev pub PiecesAhead : Layout → List ℕ → ℕ → ℕ → Type 0
+PiecesAhead L m n at =
+    (c : ℕ) → c ≤ n → ((k : ℕ) → at ≤ k → k < at + c → piecesWord L (getD m k 0) ≡ 0 → ⊥) → Ahead m (rowStores m (piecesWord L) c at)

@@ -1,4 +1,4 @@
--- `edit::fence_of` meets its contract: each test in the order of the definition.
+-- `edit::fence_of` meets its contract: the code's tests are those of the definition, in its order.
 use mathlib.Core.Path.{sym, _∙_}
 use borrow.Author.Tests.{eq-eqb, ne-eqb, not-true, not-false}
 use borrow.Author.Needs.{needs}

@@ -1,4 +1,4 @@
--- `edit::in_root` meets its contract: the entries of a root lie in one run of words.
+-- `edit::in_root` meets its contract: the entries of a root lie in one run of words, so a word is one of them if it lies between its two ends.
 use mathlib.Core.Path.{_≡_, refl, sym, ap, ap₂, _∙_}
 use Prim.Native.Nat.{ℕ, _+_, _-_, _≤_, _<_, _^_}
 use native.Mathlib.Omega.{arith}

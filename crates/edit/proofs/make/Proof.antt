@@ -8,47 +8,47 @@ use lib.ListN.{length}
 use Rattle.model.specs.Frame.{Frame, lent, boundsOk}
 use borrow.Author.Needs.{needs}
 use Rattle.sequence.proofs.Answers.{all-fits, all-memory, all-count, all-true, all-fence, cut-memory, cut-count, cut-false, cut-fence}
-use Rattle.entries.proofs.Places.{frame-same}
+use Rattle.forms.proofs.BoardShape.{board-shape}
 use Rattle.sequence.proofs.Facts.{root-lent, bounds-in}
-use Rattle.entries.proofs.Runs.{out-whole, out-cut}
+use Rattle.shapes.proofs.Runs.{out-whole, out-cut}
 use Rattle.sequence.specs.Made.{fenceAfter}
 use Rattle.sequence.specs.Blocks.{wholeList, Prepared}
-use Rattle.entries.specs.Run.{allMade, limitReached, out, run}
+use Rattle.shapes.specs.Run.{allMade, limitReached, out, run}
 use Rattle.model.specs.Stores.{Store}
 use Rattle.types.specs.Views.{fenceOf, requestOf, freeList}
 use Rattle.edit.proofs.make.Statement.{statement}
 use Rattle.edit.proofs.make.Tie as tie
-use Rattle.table.specs.Board.{frameOf}
+use Rattle.table.specs.Board.{frameOf, frameOver}
 
-all-made : (c : tie.After-struct-known) → let a = c .before .before .before .before .before .before .before .before .args in let r = c .before .before .before .before .before .store-blocks in
+all-made : (c : tie.After-struct-known) → let a = c .before .before .before .before .before .before .before .before .args in let r = c .before .before .before .before .before .store-range in
     run (record { more = a .limit; last = 0 }) (wholeList (frameOf (a .edit .f) (a .words .now)) (a .words .now) (requestOf (a .edit .q)) (a .edit .root .0) (freeList (a .free))) (a .words .now) ≡ allMade (r .result .left) (r .last .1 .0)
 all-made c =
-    let r = c .before .before .before .before .before .store-blocks in
+    let r = c .before .before .before .before .before .store-range in
     sym (r .ensures) ∙ out-whole (r .result .all) (r .result .left) (r .last .1 .0) (c .before .if1 .taken)
 
-was-cut : (c : tie.Else1) → let a = c .before .before .before .before .before .before .before .args in let r = c .before .before .before .before .store-blocks in
+was-cut : (c : tie.Else1) → let a = c .before .before .before .before .before .before .before .args in let r = c .before .before .before .before .store-range in
     run (record { more = a .limit; last = 0 }) (wholeList (frameOf (a .edit .f) (a .words .now)) (a .words .now) (requestOf (a .edit .q)) (a .edit .root .0) (freeList (a .free))) (a .words .now) ≡ limitReached (r .last .1 .0)
 was-cut c =
-    let r = c .before .before .before .before .store-blocks in
+    let r = c .before .before .before .before .store-range in
     sym (r .ensures) ∙ out-cut (r .result .all) (r .result .left) (r .last .1 .0) (c .if1 .left)
 
-store-blocks-requires : tie.Need-store-blocks-requires
-store-blocks-requires c κs = search needs
+store-range-requires : tie.Need-store-range-requires
+store-range-requires c κs = search needs
 
 sub-count : tie.Need-sub-count
 sub-count c =
     let a = c .before .before .before .before .before .before .before .before .args in
-    let r = c .before .before .before .before .before .store-blocks in
+    let r = c .before .before .before .before .before .store-range in
     omega (arith, all-fits (frameOf (a .edit .f) (a .words .now)) (requestOf (a .edit .q)) (a .edit .root .0) (a .sdid .0) (wholeList (frameOf (a .edit .f) (a .words .now)) (a .words .now) (requestOf (a .edit .q)) (a .edit .root .0) (freeList (a .free))) (a .limit) (a .words .now) (r .result .left) (r .last .1 .0) (all-made c))
 
 fence-of-requires : tie.Need-fence-of-requires
 fence-of-requires c κs =
     let s = c .before .before .before .before .before .before .before .before .before in
-    let r = c .before .before .before .before .before .before .store-blocks in
+    let r = c .before .before .before .before .before .before .store-range in
     let back : (X : Frame → Type 0) → X (frameOf (s .args .edit .f) (s .args .words .now)) → X (frameOf (s .args .edit .f) (r .last .1 .0))
-    = λ X. subst X (sym (frame-same (s .args .edit .f) (r .last .1 .0) (s .args .words .now) (r .kept .1 .0))) in (
-      back (λ X. lent X (s .args .edit .root .0) ≡ true) (root-lent (s .args .edit .f) (s .args .words .now) (requestOf (s .args .edit .q)) (s .args .edit .root .0) (freeList (s .args .free)) (s .pre)),
-      back (λ X. boundsOk X ≡ true) (bounds-in (s .args .edit .f) (s .args .words .now) (requestOf (s .args .edit .q)) (s .args .edit .root .0) (freeList (s .args .free)) (s .pre)),
+    = λ X. subst X (sym (ap (frameOver (s .args .edit .f)) (r .kept .1 .0))) in (
+      back (λ X. lent X (s .args .edit .root .0) ≡ true) (root-lent (frameOf (s .args .edit .f) (s .args .words .now)) board-shape (s .args .words .now) (requestOf (s .args .edit .q)) (s .args .edit .root .0) (freeList (s .args .free)) (s .pre)),
+      back (λ X. boundsOk X ≡ true) (bounds-in (frameOf (s .args .edit .f) (s .args .words .now)) board-shape (s .args .words .now) (requestOf (s .args .edit .q)) (s .args .edit .root .0) (freeList (s .args .free)) (s .pre)),
     )
 
 same-length : tie.Need-same-length
@@ -58,7 +58,7 @@ returns : tie.Need-returns
 returns c =
     let b = c .before .before in
     let a = b .before .before .before .before .before .before .before .before .args in
-    let r = b .before .before .before .before .before .store-blocks in
+    let r = b .before .before .before .before .before .store-range in
     let F = frameOf (a .edit .f) (a .words .now) in
     let list : List Store = wholeList (frameOf (a .edit .f) (a .words .now)) (a .words .now) (requestOf (a .edit .q)) (a .edit .root .0) (freeList (a .free)) in
     record {
@@ -66,18 +66,18 @@ returns c =
       count = all-count F (requestOf (a .edit .q)) (a .edit .root .0) (a .sdid .0) list (a .limit) (a .words .now) (r .result .left) (r .last .1 .0) (all-made b);
       all = all-true F (requestOf (a .edit .q)) (a .edit .root .0) (a .sdid .0) list (a .limit) (a .words .now) (r .result .left) (r .last .1 .0) (all-made b);
       fence =
-          subst (λ (X : Frame). fenceOf (c .fence-of .result) ≡ fenceAfter X (requestOf (a .edit .q)) (a .edit .root .0) (a .sdid .0) (a .limit - r .result .left .more) true (r .result .left .last)) (frame-same (a .edit .f) (r .last .1 .0) (a .words .now) (r .kept .1 .0)) (c .fence-of .ensures)
+          subst (λ (X : Frame). fenceOf (c .fence-of .result) ≡ fenceAfter X (requestOf (a .edit .q)) (a .edit .root .0) (a .sdid .0) (a .limit - r .result .left .more) true (r .result .left .last)) (ap (frameOver (a .edit .f)) (r .kept .1 .0)) (c .fence-of .ensures)
           ∙ all-fence F (requestOf (a .edit .q)) (a .edit .root .0) (a .sdid .0) list (a .limit) (a .words .now) (r .result .left) (r .last .1 .0) (all-made b);
     }
 
 fence-of-requires-2 : tie.Need-fence-of-requires-2
 fence-of-requires-2 c κs =
     let s = c .before .before .before .before .before .before .before .before in
-    let r = c .before .before .before .before .before .store-blocks in
+    let r = c .before .before .before .before .before .store-range in
     let back : (X : Frame → Type 0) → X (frameOf (s .args .edit .f) (s .args .words .now)) → X (frameOf (s .args .edit .f) (r .last .1 .0))
-    = λ X. subst X (sym (frame-same (s .args .edit .f) (r .last .1 .0) (s .args .words .now) (r .kept .1 .0))) in (
-      back (λ X. lent X (s .args .edit .root .0) ≡ true) (root-lent (s .args .edit .f) (s .args .words .now) (requestOf (s .args .edit .q)) (s .args .edit .root .0) (freeList (s .args .free)) (s .pre)),
-      back (λ X. boundsOk X ≡ true) (bounds-in (s .args .edit .f) (s .args .words .now) (requestOf (s .args .edit .q)) (s .args .edit .root .0) (freeList (s .args .free)) (s .pre)),
+    = λ X. subst X (sym (ap (frameOver (s .args .edit .f)) (r .kept .1 .0))) in (
+      back (λ X. lent X (s .args .edit .root .0) ≡ true) (root-lent (frameOf (s .args .edit .f) (s .args .words .now)) board-shape (s .args .words .now) (requestOf (s .args .edit .q)) (s .args .edit .root .0) (freeList (s .args .free)) (s .pre)),
+      back (λ X. boundsOk X ≡ true) (bounds-in (frameOf (s .args .edit .f) (s .args .words .now)) board-shape (s .args .words .now) (requestOf (s .args .edit .q)) (s .args .edit .root .0) (freeList (s .args .free)) (s .pre)),
     )
 
 same-length-2 : tie.Need-same-length-2
@@ -87,7 +87,7 @@ returns-2 : tie.Need-returns-2
 returns-2 c =
     let b = c .before .before in
     let a = b .before .before .before .before .before .before .before .args in
-    let r = b .before .before .before .before .store-blocks in
+    let r = b .before .before .before .before .store-range in
     let F = frameOf (a .edit .f) (a .words .now) in
     let list : List Store = wholeList (frameOf (a .edit .f) (a .words .now)) (a .words .now) (requestOf (a .edit .q)) (a .edit .root .0) (freeList (a .free)) in
     record {
@@ -95,7 +95,7 @@ returns-2 c =
       count = cut-count F (requestOf (a .edit .q)) (a .edit .root .0) (a .sdid .0) list (a .limit) (a .words .now) (r .last .1 .0) (was-cut b);
       all = cut-false F (requestOf (a .edit .q)) (a .edit .root .0) (a .sdid .0) list (a .limit) (a .words .now) (r .last .1 .0) (was-cut b);
       fence =
-          subst (λ (X : Frame). fenceOf (c .fence-of2 .result) ≡ fenceAfter X (requestOf (a .edit .q)) (a .edit .root .0) (a .sdid .0) (a .limit) false 0) (frame-same (a .edit .f) (r .last .1 .0) (a .words .now) (r .kept .1 .0)) (c .fence-of2 .ensures)
+          subst (λ (X : Frame). fenceOf (c .fence-of2 .result) ≡ fenceAfter X (requestOf (a .edit .q)) (a .edit .root .0) (a .sdid .0) (a .limit) false 0) (ap (frameOver (a .edit .f)) (r .kept .1 .0)) (c .fence-of2 .ensures)
           ∙ cut-fence F (requestOf (a .edit .q)) (a .edit .root .0) (a .sdid .0) list (a .limit) (a .words .now) (r .last .1 .0) (was-cut b);
     }
 
@@ -103,7 +103,7 @@ pub make-spec : {M : Type 1} → statement M
 make-spec =
     tie.close
     (tie.spec
-    store-blocks-requires
+    store-range-requires
     sub-count
     fence-of-requires
     same-length

@@ -18,9 +18,10 @@ use Rattle.laws.proofs.Frames.{framed}
 use Rattle.types.specs.declared.Free.{Free}
 use Rattle.scan.specs.Free.{listed}
 use Rattle.types.specs.Views.{requestOf, freeList}
-use Rattle.forms.specs.Permissions.{wholePages}
+use Rattle.shapes.specs.Blocks.{wholePages}
 use Rattle.sequence.specs.Blocks.{Prepared}
 use Rattle.sequence.specs.Made.{IsMade}
+use Rattle.forms.proofs.BoardShape.{board-shape}
 use Rattle.sequence.proofs.Facts.{accepted-list}
 use Rattle.shapes.specs.Rooted.{Rooted}
 use Rattle.monitor.specs.Edits.{InOpenSlot}
@@ -211,7 +212,7 @@ returns-4 c =
     made-is F m (a .t3) q (a .limit) (storeList F m (a .t3) q) (k .make .last .1 .0) (k .make .result)
     (subst₃ (λ (root sdid : ℕ) (list : List Store). IsMade F q root sdid list (a .limit) m (k .make .last .1 .0) (k .make .result))
     (p .ppn .ensures .0) (d .sdid .ensures .0)
-    (accepted-list (a .f) m q (p .ppn .result .0) (freeList (p .before .free-pages .result)) (asks x))
+    (accepted-list F board-shape m q (p .ppn .result .0) (freeList (p .before .free-pages .result)) (asks x))
     (k .make .ensures))
     ∙ sym (edit-done F m (a .t3) q (a .limit) (accepted x))
 

@@ -19,7 +19,7 @@ Inv-loop f words at count used₀ b₀ used b = (b ≤ count) × (at + count ≤
 abbrev μ-loop : tie.MeasureT-loop
 μ-loop f words at count used₀ b₀ used b = count - b
 
--- what the turn's entry says
+-- what the entry at hand says
 said : (c : tie.After-entry Inv-loop μ-loop) → let l = c .before .before .before .before .before in let a = l .before .before .args in
     answer (c .entry .result) (c .entry .last .1 .1 .1 .0)
     ≡ wordStep (frameOf (a .f) (now (a .words))) (now (a .words)) (a .at) (l .loop .used) (l .loop .b)

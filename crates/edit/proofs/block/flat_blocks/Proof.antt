@@ -4,13 +4,13 @@ use mathlib.Core.List.{List}
 use Prim.Native.Nat.{ℕ, _+_, _-_, _*_, _%_, _≤_, _<_}
 use native.Mathlib.Omega.{arith}
 use lib.ListN.{drop}
-use Rattle.sequence.proofs.BlockRows.{row-stores, row-pages, flat-entry}
-use Rattle.entries.specs.Rows.{rowStores}
-use Rattle.sequence.specs.Steps.{storesOver}
-use Rattle.entries.specs.Ahead.{Ahead}
-use Rattle.entries.proofs.Order.{ahead-of}
-use Rattle.entries.specs.Run.{run}
-use Rattle.entries.proofs.Places.{place}
+use Rattle.shapes.proofs.BlockLaws.{row-stores, row-pages, flat-entry}
+use Rattle.shapes.specs.Rows.{rowStores}
+use Rattle.shapes.specs.Blocks.{storesOver}
+use Rattle.shapes.specs.Ahead.{Ahead}
+use Rattle.shapes.proofs.Order.{ahead-of}
+use Rattle.shapes.specs.Run.{run}
+use Rattle.shapes.proofs.Places.{place}
 use Rattle.types.specs.Views.{requestOf, freeList}
 use Rattle.model.specs.Stores.{Store}
 use borrow.Author.Needs.{needs}
@@ -45,7 +45,7 @@ row-here w =
     let F = frameOf (a .edit .f) m in
     let n = 32 - a .b % 32 in
     ap₂ (λ (x k : ℕ). rowStores m (λ y. x) n k) (w .narrow .ensures) (place F (a .edit .root .0) (a .b) _ (p .page-at .ensures .0))
-    ∙ sym (row-stores F m (requestOf (a .edit .q)) (a .edit .root .0) (a .gib) (λ y. a .gib .p * TYPEUNIT) n (a .b) (drop (a .next) (freeList (a .free))) (λ x lo hi. flat-entry (a .edit .f) m (requestOf (a .edit .q)) (a .edit .root .0) (a .gib) (s .pre .3) x))
+    ∙ sym (row-stores F m (requestOf (a .edit .q)) (a .edit .root .0) (a .gib) (λ y. a .gib .p * TYPEUNIT) n (a .b) (drop (a .next) (freeList (a .free))) (λ x lo hi. flat-entry F m (requestOf (a .edit .q)) (a .edit .root .0) (a .gib) (s .pre .3) x))
 
 flat-entries-requires : tie.Need-flat-entries-requires
 flat-entries-requires c κs =
@@ -69,7 +69,7 @@ returns c =
     record {
       made =
           c .before .before .before .flat-entries .ensures ∙ ap (λ (ss : List Store). run (a .left) ss m) (row-here (c .before .before .before .before));
-      pages = omega (arith, row-pages F m (requestOf (a .edit .q)) (a .edit .root .0) (a .gib) (λ w. a .gib .p * TYPEUNIT) n (a .b) (λ x lo hi. flat-entry (a .edit .f) m (requestOf (a .edit .q)) (a .edit .root .0) (a .gib) (s .pre .3) x));
+      pages = omega (arith, row-pages F m (requestOf (a .edit .q)) (a .edit .root .0) (a .gib) (λ w. a .gib .p * TYPEUNIT) n (a .b) (λ x lo hi. flat-entry F m (requestOf (a .edit .q)) (a .edit .root .0) (a .gib) (s .pre .3) x));
       some = omega arith;
       within = omega arith;
     }

@@ -1,18 +1,21 @@
--- `edit::block::mixed_blocks` meets its contract: outside the range a block without an L1 page has one entry to store; if the first one has such a page, nothing was stored yet.
+-- `edit::block::mixed_blocks` meets its contract: outside the range a block without an L1 page has one entry to store, so the row's stores are its
+-- blocks'; if the first one has such a page, nothing was stored yet, and that block is stored alone.
 use mathlib.Core.Path.{_≡_, sym, ap, _∙_, subst}
 use mathlib.Core.List.{List, headD}
 use Prim.Native.Nat.{ℕ, _+_, _-_, _%_, _^_, _≤_, _<_}
 use native.Mathlib.Omega.{arith}
 use lib.ListN.{drop, getD}
-use Rattle.sequence.proofs.BlockRows.{Entrywise, ahead-over, row-stores, row-pages, pieces-entry}
-use Rattle.entries.proofs.RowLaws.{row-none}
+use Rattle.forms.proofs.BoardShape.{board-shape}
+use Rattle.shapes.proofs.BlockLaws.{Entrywise, ahead-over, row-stores, row-pages, pieces-entry}
+use Rattle.shapes.proofs.RowLaws.{row-none}
 use Rattle.sequence.specs.Blocks.{HasNewPage}
-use Rattle.sequence.specs.Steps.{Advanced, storesOver}
-use Rattle.entries.specs.Ahead.{Ahead}
-use Rattle.entries.proofs.Order.{ahead-of}
-use Rattle.entries.specs.Rows.{rowStores, piecesWord, PiecesAhead}
-use Rattle.entries.specs.Run.{run}
-use Rattle.entries.proofs.Places.{place}
+use Rattle.sequence.specs.GibBlocks.{Advanced}
+use Rattle.shapes.specs.Blocks.{storesOver}
+use Rattle.shapes.specs.Ahead.{Ahead}
+use Rattle.shapes.proofs.Order.{ahead-of}
+use Rattle.shapes.specs.Rows.{rowStores, piecesWord, PiecesAhead}
+use Rattle.shapes.specs.Run.{run}
+use Rattle.shapes.proofs.Places.{place}
 use Rattle.types.specs.Range.{Fair}
 use Rattle.model.specs.Frame.{blocks, indexOf}
 use Rattle.model.specs.Stores.{Store}
@@ -20,7 +23,7 @@ use Rattle.shapes.specs.Rooted.{Rooted}
 use borrow.Author.Needs.{needs}
 use Rattle.edit.proofs.block.mixed_blocks.Statement.{statement}
 use Rattle.edit.proofs.block.mixed_blocks.Tie as tie
-use Rattle.table.specs.Board.{INFO, frameOf}
+use Rattle.table.specs.Board.{board, frameOf}
 use Rattle.types.specs.Views.{requestOf, freeList}
 
 -- a first entry with an L1 page: nothing is stored yet
@@ -28,7 +31,7 @@ nothing : (c : tie.Then1) → c .before .before .before .before .pieces-row .las
 nothing c =
     let a = c .before .before .before .before .before .before .before .before .before .before .args in
     let r = c .before .before .before .before .pieces-row in
-    row-none piecesWord (a .words .now) (a .left) _ (r .result .count) (c .if1 .taken) (r .result .all) (r .result .left) (r .last .0) (r .ensures .2)
+    row-none (piecesWord board) (a .words .now) (a .left) _ (r .result .count) (c .if1 .taken) (r .result .all) (r .result .left) (r .last .0) (r .ensures .2)
 
 -- how many blocks lie outside the range, from b on
 abbrev outside : tie.After-page-at → ℕ
@@ -45,29 +48,29 @@ add-at c = search needs
 
 -- the row's stores, as far as no block has an L1 page, are those of its blocks
 abbrev NoTable : (p : tie.After-page-at) → ℕ → Type 0
-NoTable p n = let a = p .before .before .before .before .args in (k : ℕ) → p .page-at .result + a .b ≤ k → k < p .page-at .result + a .b + n → piecesWord (getD (a .words .now) k 0) ≡ 0 → ⊥
+NoTable p n = let a = p .before .before .before .before .args in (k : ℕ) → p .page-at .result + a .b ≤ k → k < p .page-at .result + a .b + n → piecesWord board (getD (a .words .now) k 0) ≡ 0 → ⊥
 
 entries-here : (p : tie.After-page-at) (n : ℕ) → let a = p .before .before .before .before .args in
-    n ≤ outside p → NoTable p n → (x : ℕ) → a .b ≤ x → x < a .b + n → Entrywise (frameOf (a .edit .f) (a .words .now)) (a .words .now) (requestOf (a .edit .q)) (a .edit .root .0) (a .gib) piecesWord x
+    n ≤ outside p → NoTable p n → (x : ℕ) → a .b ≤ x → x < a .b + n → Entrywise (frameOf (a .edit .f) (a .words .now)) (a .words .now) (requestOf (a .edit .q)) (a .edit .root .0) (a .gib) (piecesWord board) x
 entries-here p n few some x lo hi =
     let s = p .before .before .before .before in
     let a = s .args in
     let m = a .words .now in
     let F = frameOf (a .edit .f) m in
     let k : p .page-at .result + x ≡ indexOf F (a .edit .root .0) x = place F (a .edit .root .0) x _ (p .page-at .ensures .0) in
-    pieces-entry (a .edit .f) m (requestOf (a .edit .q)) (a .edit .root .0) (a .gib) (s .pre .2 .small) (s .pre .6) (s .pre .0 .isLent) x (s .pre .0 .good x (omega (arith, s .pre .1, p .before .before .blocks-outside .ensures .0)))
+    pieces-entry F m (requestOf (a .edit .q)) (a .edit .root .0) (a .gib) board-shape (s .pre .2 .small) (s .pre .6) (s .pre .0 .isLent) x (s .pre .0 .good x (omega (arith, s .pre .1, p .before .before .blocks-outside .ensures .0)))
     (λ y l u. p .before .before .blocks-outside .ensures .1 y (omega arith) (omega arith))
-    (subst (λ (y : ℕ). piecesWord (getD m y 0) ≡ 0 → ⊥) k (some _ (omega arith) (omega arith)))
+    (subst (λ (y : ℕ). piecesWord board (getD m y 0) ≡ 0 → ⊥) k (some _ (omega arith) (omega arith)))
 
 row-here : (p : tie.After-page-at) (n : ℕ) → let a = p .before .before .before .before .args in n ≤ outside p → NoTable p n
-    → rowStores (a .words .now) piecesWord n (p .page-at .result + a .b)
+    → rowStores (a .words .now) (piecesWord board) n (p .page-at .result + a .b)
     ≡ storesOver (frameOf (a .edit .f) (a .words .now)) (a .words .now) (requestOf (a .edit .q)) (a .edit .root .0) (a .gib) n (a .b) (drop (a .next) (freeList (a .free)))
 row-here p n few some =
     let a = p .before .before .before .before .args in
     let m = a .words .now in
     let F = frameOf (a .edit .f) m in
-    ap (rowStores m piecesWord n) (place F (a .edit .root .0) (a .b) _ (p .page-at .ensures .0))
-    ∙ sym (row-stores F m (requestOf (a .edit .q)) (a .edit .root .0) (a .gib) piecesWord n (a .b) (drop (a .next) (freeList (a .free))) (entries-here p n few some))
+    ap (rowStores m (piecesWord board) n) (place F (a .edit .root .0) (a .b) _ (p .page-at .ensures .0))
+    ∙ sym (row-stores F m (requestOf (a .edit .q)) (a .edit .root .0) (a .gib) (piecesWord board) n (a .b) (drop (a .next) (freeList (a .free))) (entries-here p n few some))
 
 pieces-row-requires : tie.Need-pieces-row-requires
 pieces-row-requires c κs =
@@ -76,7 +79,7 @@ pieces-row-requires c κs =
     let a = s .args in
     let m = a .words .now in
     let F = frameOf (a .edit .f) m in
-    let next : PiecesAhead m (outside p) (p .page-at .result + a .b)
+    let next : PiecesAhead board m (outside p) (p .page-at .result + a .b)
     = λ k few some. ahead-of (sym (row-here p k few some)) (ahead-over F m (requestOf (a .edit .q)) (a .edit .root .0) (a .gib) k (32 - a .b % 32) (a .b) (drop (a .next) (freeList (a .free))) (omega (arith, p .before .before .blocks-outside .ensures .0)) (s .pre .7)) in
     search needs
 
@@ -115,7 +118,7 @@ returns-2 c =
     let p = c .before .before .before .before .before .before .before in
     record {
       made = r .ensures .2 ∙ ap (λ (ss : List Store). run (a .left) ss m) (row-here p n (r .ensures .0) (r .ensures .1));
-      pages = omega (arith, row-pages F m (requestOf (a .edit .q)) (a .edit .root .0) (a .gib) piecesWord n (a .b) (entries-here p n (r .ensures .0) (r .ensures .1)));
+      pages = omega (arith, row-pages F m (requestOf (a .edit .q)) (a .edit .root .0) (a .gib) (piecesWord board) n (a .b) (entries-here p n (r .ensures .0) (r .ensures .1)));
       some = omega (arith, c .before .if1 .left);
       within = omega (arith, p .before .before .blocks-outside .ensures .0, r .ensures .0);
     }

@@ -1,4 +1,5 @@
--- `edit::block::next_blocks` meets its contract: by whether the GiB is of one permission.
+-- `edit::block::next_blocks` meets its contract: a GiB of one permission goes to `flat_blocks` and any other to `mixed_blocks`, and each says what is
+-- asked here.
 use borrow.Author.Needs.{needs}
 use Rattle.edit.proofs.block.next_blocks.Statement.{statement}
 use Rattle.edit.proofs.block.next_blocks.Tie as tie

@@ -9,20 +9,18 @@ use Rattle.model.specs.Stores.{Store, blockStores, needsPage}
 use Rattle.model.specs.Forms.{Form, formIn}
 use Rattle.model.specs.Frame.{lent}
 use borrow.Author.Needs.{needs}
-use Rattle.sequence.proofs.Facts.{form-encodes}
-use Rattle.sequence.proofs.BlockRows.{over-one, pages-one}
-use Rattle.sequence.specs.Blocks.{Encodes, storesAt}
-use Rattle.sequence.specs.Steps.{storesOver}
-use Rattle.entries.proofs.Order.{ahead-of}
-use Rattle.entries.specs.Run.{run}
-use Rattle.forms.specs.Permissions.{formAt}
+use Rattle.forms.proofs.BoardShape.{board-shape}
+use Rattle.shapes.proofs.BlockLaws.{form-encodes, over-one, pages-one}
+use Rattle.shapes.specs.Blocks.{Encodes, formAt, storesAt, storesOver}
+use Rattle.shapes.proofs.Order.{ahead-of}
+use Rattle.shapes.specs.Run.{run}
 use Rattle.model.specs.Entry.{Entry}
 use Rattle.model.specs.Numbers.{if_then_else_}
 use Rattle.types.specs.Views.{entryOf, requestOf, formOf, freeList}
 use Rattle.shapes.specs.Rooted.{Good}
 use Rattle.edit.proofs.block.one_block.Statement.{statement}
 use Rattle.edit.proofs.block.one_block.Tie as tie
-use Rattle.table.specs.Board.{board, WORDS, frameOf}
+use Rattle.table.specs.Board.{board, frameOf}
 
 good-here : (c : tie.After-entry-at) → let a = c .before .before .before .args in Good (frameOf (a .edit .f) (a .words .now)) (a .words .now) (entryOf (c .entry-at .result))
 good-here c =
@@ -63,8 +61,8 @@ page-from-requires c κs = search needs
 next-page-requires : tie.Need-next-page-requires
 next-page-requires c κs = search needs
 
-block-stores-requires : tie.Need-block-stores-requires
-block-stores-requires c κs =
+store-block-requires : tie.Need-store-block-requires
+store-block-requires c κs =
     let s = c .before .before .before .before .before .before .before .before in
     let a = s .args in
     let bf = c .before .before .before in
@@ -75,8 +73,8 @@ block-stores-requires c κs =
       s .pre .0 .isLent,
       λ z. let y = s .pre .5 (sym (ap₂ (λ (x : Form) (e : Entry). needsPage x e) (form-here bf) (ea .entry-at .ensures .0)) ∙ z) in
           subst (λ (n : ℕ). (lent (frameOf (a .edit .f) (a .words .now)) n ≡ true) × (n < 2 ^ board .infoBits)) (sym (c .before .before .page-from .ensures)) y,
-      subst Encodes (sym (bf .block-form .ensures))
-          (form-encodes (a .edit .f .paw) (a .edit .f .first .0) (length (a .words .now) / WORDS) (a .words .now) (requestOf (a .edit .q)) (s .pre .2 .small) (entryOf (ea .entry-at .result)) (good-here ea) (a .gib .one) (a .gib .p) (a .b) (s .pre .3)),
+      subst (Encodes board) (sym (bf .block-form .ensures))
+          (form-encodes (frameOf (a .edit .f) (a .words .now)) board-shape (a .words .now) (requestOf (a .edit .q)) (s .pre .2 .small) (entryOf (ea .entry-at .result)) (good-here ea) (a .gib .one) (a .gib .p) (a .b) (s .pre .3)),
       ahead-of (sym (block-here (c .before .before))) (s .pre .6),
     )
 
@@ -92,7 +90,7 @@ returns c =
     let F = frameOf (a .edit .f) (a .words .now) in
     record {
       made =
-          c .before .before .before .block-stores .ensures ∙ ap (λ (ss : List Store). run (a .left) ss (a .words .now)) (block-here (c .before .before .before .before .before .before));
+          c .before .before .before .store-block .ensures ∙ ap (λ (ss : List Store). run (a .left) ss (a .words .now)) (block-here (c .before .before .before .before .before .before));
       pages =
           c .before .before .before .before .before .next-page .ensures
           ∙ ap₂ (λ (x : Form) (e : Entry). if needsPage x e then a .next + 1 else a .next) (form-here bf) (ea .entry-at .ensures .0)
@@ -109,6 +107,6 @@ one-block-spec =
     block-form-requires
     page-from-requires
     next-page-requires
-    block-stores-requires
+    store-block-requires
     same-length
     returns)

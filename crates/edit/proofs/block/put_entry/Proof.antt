@@ -1,12 +1,12 @@
--- `edit::block::put_entry` meets its contract: the word that is stored is the entry's.
+-- `edit::block::put_entry` meets its contract: the word at the root's start and the block's number is the block's entry, so the store is the model's.
 use mathlib.Core.Path.{_≡_, refl, sym, ap, ap₂, _∙_, subst}
 use mathlib.Core.List.{List, [], _∷_}
 use Prim.Native.Nat.{ℕ, _+_}
 use borrow.Author.Needs.{needs}
-use Rattle.sequence.proofs.BlockRows.{changed-l2}
-use Rattle.entries.proofs.Order.{ahead-of}
-use Rattle.entries.specs.Run.{run}
-use Rattle.entries.proofs.Places.{place}
+use Rattle.shapes.proofs.BlockLaws.{changed-l2}
+use Rattle.shapes.proofs.Order.{ahead-of}
+use Rattle.shapes.specs.Run.{run}
+use Rattle.shapes.proofs.Places.{place}
 use lib.Dec.{eqb}
 use lib.ListN.{getD}
 use Rattle.model.specs.Numbers.{if_then_else_}

@@ -4,13 +4,14 @@ use mathlib.Core.List.{List, _++_}
 use Prim.Native.Nat.{ℕ, _-_}
 use lib.ListN.{length}
 use native.Mathlib.Omega.{arith}
-use Rattle.table.specs.Board.{WORDS, frameOf}
-use Rattle.entries.specs.Pages.{newRun}
-use Rattle.entries.proofs.NewPage.{run-same, run-parts}
-use Rattle.entries.proofs.Order.{ahead-of, Remaining, remaining-start, remaining-ahead, remaining-next, remaining-cut}
-use Rattle.entries.proofs.Places.{lent-same, good-same}
-use Rattle.entries.proofs.Runs.{went-whole, went-cut}
-use Rattle.entries.specs.Run.{out, run}
+use Rattle.table.specs.Board.{WORDS, frameOf, frameOver}
+use Rattle.shapes.specs.Pages.{newRun}
+use Rattle.shapes.proofs.NewPage.{run-same}
+use Rattle.shapes.proofs.PageLaws.{run-parts}
+use Rattle.shapes.proofs.Order.{ahead-of, Remaining, remaining-start, remaining-ahead, remaining-next, remaining-cut}
+use Rattle.shapes.proofs.Places.{lent-same, good-same}
+use Rattle.shapes.proofs.Runs.{progress-all, progress-cut}
+use Rattle.shapes.specs.Run.{out, run}
 use Rattle.types.specs.declared.Budget.{Budget}
 use Rattle.model.specs.Stores.{Store, newTable}
 use Rattle.types.specs.Views.{entryOf, requestOf}
@@ -43,21 +44,21 @@ same-part : (n : tie.After-near-end) (m : List ℕ) → let a = n .before .befor
 same-part n m len count i =
     let s = n .before .before .before in
     let a = s .args in
-    run-same (a .edit .f) (requestOf (a .edit .q)) (s .pre .1 .small) (entryOf (a .new .e)) (s .pre .4) (a .new .b) (a .new .page .0) (a .words .now) m len count i
+    run-same (frameOver (a .edit .f)) (requestOf (a .edit .q)) (entryOf (a .new .e)) (a .new .b) (a .new .page .0) m (a .words .now) (s .pre .4) len count i
 
 -- before the first part, the second and the third
 first : (n : tie.After-near-end) → let a = n .before .before .before .args in On n (a .left) (a .words .now) (part n (from′ n - 0) 0 ++ (part n (to′ n - from′ n) (from′ n) ++ part n (WORDS - to′ n) (to′ n)))
 first n =
     let s = n .before .before .before in
     let a = s .args in
-    remaining-start (run-parts (a .edit .f) (requestOf (a .edit .q)) (s .pre .1 .small) (entryOf (a .new .e)) (s .pre .4) (a .new .b) (a .new .page .0) (a .words .now) (from′ n) (to′ n) (n .near-end .ensures .0) (n .near-end .ensures .1)) (s .pre .5)
+    remaining-start (run-parts (frameOf (a .edit .f) (a .words .now)) (a .words .now) (requestOf (a .edit .q)) (entryOf (a .new .e)) (a .new .b) (a .new .page .0) (from′ n) (to′ n) (n .near-end .ensures .0) (n .near-end .ensures .1)) (s .pre .5)
 
 second : (el : tie.Else1) → let oe = el .before .before .before .before in let n = oe .before .before in
     On n (oe .old-entries .result .left) (oe .old-entries .last .1 .0) (part n (to′ n - from′ n) (from′ n) ++ part n (WORDS - to′ n) (to′ n))
 second el =
     let oe = el .before .before .before .before in
     let r = oe .old-entries in
-    remaining-next (first (oe .before .before)) _ _ refl (sym (went-whole (r .result) (r .last .1 .0) (el .if1 .left)) ∙ r .ensures)
+    remaining-next (first (oe .before .before)) _ _ refl (sym (progress-all (r .result) (r .last .1 .0) (el .if1 .left)) ∙ r .ensures)
 
 -- what the second part made, from the memory that the call found
 said : (ne : tie.After-new-entries) → let oe = ne .before .before .before .before .before .before .before in let n = oe .before .before in let t = ne .new-entries in
@@ -72,7 +73,7 @@ third : (el2 : tie.Else2) → let ne = el2 .before .before .before .before in le
 third el2 =
     let ne = el2 .before .before .before .before in
     let t = ne .new-entries in
-    remaining-next (second (ne .before .before .before)) _ _ refl (sym (went-whole (t .result) (t .last .1 .0) (el2 .if2 .left)) ∙ said ne)
+    remaining-next (second (ne .before .before .before)) _ _ refl (sym (progress-all (t .result) (t .last .1 .0) (el2 .if2 .left)) ∙ said ne)
 
 old-entries-requires : tie.Need-old-entries-requires
 old-entries-requires c κs = let fe = c .before .before in
@@ -85,7 +86,7 @@ same-length c = search needs
 returns : tie.Need-returns
 returns c = let oe = c .before .before .before .before in
     let r = oe .old-entries in
-    let z = went-cut (r .result) (r .last .1 .0) (c .if1 .taken) in
+    let z = progress-cut (r .result) (r .last .1 .0) (c .if1 .taken) in
     z ∙ remaining-cut (first (oe .before .before)) _ _ refl (sym z ∙ r .ensures)
 
 new-entries-requires : tie.Need-new-entries-requires
@@ -98,8 +99,8 @@ new-entries-requires c κs = let oe = c .before .before .before .before .before 
       n .near-end .ensures .1,
       n .near-end .ensures .0,
       s .pre .1,
-      good-same (a .edit .f) (a .words .now) (r .last .1 .0) (r .kept .1 .0) (entryOf (a .new .e)) (s .pre .4) (s .pre .2),
-      lent-same (a .edit .f) (a .words .now) (r .last .1 .0) (r .kept .1 .0) (a .new .page .0) (s .pre .3),
+      good-same (frameOver (a .edit .f)) (a .words .now) (r .last .1 .0) (r .kept .1 .0) (entryOf (a .new .e)) (s .pre .4) (s .pre .2),
+      lent-same (frameOver (a .edit .f)) (a .words .now) (r .last .1 .0) (r .kept .1 .0) (a .new .page .0) (s .pre .3),
       s .pre .4,
       ahead-of (sym (same-part n (r .last .1 .0) (r .kept .1 .0) _ _)) (remaining-ahead (second (c .before .before)) _ _ refl),
     )
@@ -110,7 +111,7 @@ same-length-2 c = search needs
 returns-2 : tie.Need-returns-2
 returns-2 c = let ne = c .before .before .before .before in
     let t = ne .new-entries in
-    let z = went-cut (t .result) (t .last .1 .0) (c .if2 .taken) in
+    let z = progress-cut (t .result) (t .last .1 .0) (c .if2 .taken) in
     z ∙ remaining-cut (second (ne .before .before .before)) _ _ refl (sym z ∙ said ne)
 
 old-entries-requires-2 : tie.Need-old-entries-requires-2
@@ -125,8 +126,8 @@ old-entries-requires-2 c κs = let ne = c .before .before .before .before .befor
       omega arith,
       n .near-end .ensures .1,
       s .pre .1,
-      good-same (a .edit .f) (a .words .now) (t .last .1 .0) (t .kept .1 .0 ∙ r .kept .1 .0) (entryOf (a .new .e)) (s .pre .4) (s .pre .2),
-      lent-same (a .edit .f) (a .words .now) (t .last .1 .0) (t .kept .1 .0 ∙ r .kept .1 .0) (a .new .page .0) (s .pre .3),
+      good-same (frameOver (a .edit .f)) (a .words .now) (t .last .1 .0) (t .kept .1 .0 ∙ r .kept .1 .0) (entryOf (a .new .e)) (s .pre .4) (s .pre .2),
+      lent-same (frameOver (a .edit .f)) (a .words .now) (t .last .1 .0) (t .kept .1 .0 ∙ r .kept .1 .0) (a .new .page .0) (s .pre .3),
       s .pre .4,
       λ k lo hi. n .near-end .ensures .2 k (omega arith) (omega (arith, n .near-end .ensures .1)),
       ahead-of (sym (same-part n (t .last .1 .0) (t .kept .1 .0 ∙ r .kept .1 .0) _ _)) (third (c .before .before) .next),

@@ -1,4 +1,4 @@
--- `entries::fresh::near_end` meets its contract: past the range nothing lies in it, also where that is before its first entry.
+-- `entries::fresh::near_end` meets its contract: from the entry past the range on nothing lies in it, so nothing does from a later entry on.
 use native.Mathlib.Omega.{arith}
 use borrow.Author.Needs.{needs}
 use Rattle.entries.proofs.fresh.near_end.Statement.{statement}

@@ -1,7 +1,7 @@
 -- `entries::fresh::new_entry` meets its contract: the word is that of the entry, and its store is the next one.
 use borrow.Author.Needs.{needs}
 use Rattle.table.specs.Board.{frameOf}
-use Rattle.entries.proofs.Places.{next-store, stored}
+use Rattle.shapes.proofs.Places.{next-store, stored}
 use Rattle.entries.proofs.fresh.new_entry.Statement.{statement}
 use Rattle.entries.proofs.fresh.new_entry.Tie as tie
 
@@ -26,7 +26,7 @@ same-length c = search needs
 returns : tie.Need-returns
 returns c =
     let a = c .before .before .before .before .before .before .before .before .before .args in
-    stored (frameOf (a .edit .f) (a .words .now)) (a .new .page .0) (a .i) _ (c .before .before .before .before .before .before .page-at .ensures .0) (a .left) (a .words .now) (c .before .before .before .before .after-word .ensures) (c .before .before .put .ensures)
+    stored (frameOf (a .edit .f) (a .words .now)) (a .new .page .0) (a .i) _ (c .before .before .before .before .before .before .page-at .ensures .0) (a .words .now) (c .before .before .before .before .after-word .ensures) (a .left) (c .before .before .put .ensures)
 
 pub new-entry-spec : {M : Type 1} → statement M
 new-entry-spec =

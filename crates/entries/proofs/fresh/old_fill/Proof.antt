@@ -1,4 +1,4 @@
--- `entries::fresh::old_fill` meets its contract: each entry of the run, outside the range, stays the one word.
+-- `entries::fresh::old_fill` meets its contract: each entry of the run, outside the range, stays the one word, so a fill makes the run's stores.
 use mathlib.Core.Path.{_≡_, sym, ap, _∙_, subst}
 use mathlib.Core.List.{List}
 use Prim.Native.Nat.{ℕ, _+_, _-_, _*_, _/_, _≤_, _<_, _^_}
@@ -9,16 +9,16 @@ use Rattle.model.specs.Forms.{l1Word}
 use Rattle.model.specs.Frame.{indexOf}
 use Rattle.model.specs.Stores.{Store}
 use Rattle.types.specs.Views.{entryOf, requestOf}
-use Rattle.forms.specs.Permissions.{oldWord}
+use Rattle.shapes.specs.Words.{oldWord}
 use Rattle.forms.proofs.EntryLaws.{word-outside}
 use Rattle.table.specs.Board.{WORDS, ENTRY, frameOf}
-use Rattle.entries.specs.Rows.{fillStores}
-use Rattle.entries.specs.Run.{run}
-use Rattle.entries.specs.Ahead.{Ahead}
-use Rattle.entries.specs.Pages.{newRun}
-use Rattle.entries.proofs.NewPage.{fill-run}
-use Rattle.entries.proofs.Order.{ahead-of}
-use Rattle.entries.proofs.Places.{place}
+use Rattle.shapes.specs.Rows.{fillStores}
+use Rattle.shapes.specs.Run.{run}
+use Rattle.shapes.specs.Ahead.{Ahead}
+use Rattle.shapes.specs.Pages.{newRun}
+use Rattle.shapes.proofs.PageLaws.{fill-run}
+use Rattle.shapes.proofs.Order.{ahead-of}
+use Rattle.shapes.proofs.Places.{place}
 use Rattle.entries.proofs.fresh.old_fill.Statement.{statement}
 use Rattle.entries.proofs.fresh.old_fill.Tie as tie
 

@@ -29,27 +29,27 @@ enum-told-4 : tie.Need-enum-told-4
 enum-told-4 c = search needs
 
 returns : tie.Need-returns
-returns c = (omega arith, omega arith, λ F m k lo hi. rw (c .enum-told .given .1))
+returns c = (omega arith, omega arith, λ f m k lo hi. rw (c .enum-told .given .1))
 
 returns-2 : tie.Need-returns-2
 returns-2 c = (
   omega arith,
   omega arith,
-  λ F m k lo hi. let z : k / ROW ≡ c .before .before .before .args .i / ROW = omega arith in rw (c .before .enum-told2 .given .1, z),
+  λ f m k lo hi. let z : k / ROW ≡ c .before .before .before .args .i / ROW = omega arith in rw (c .before .enum-told2 .given .1, z),
 )
 
 returns-3 : tie.Need-returns-3
 returns-3 c = (
   omega arith,
   omega arith,
-  λ F m k lo hi. let z : k / ROW ≡ c .before .before .before .args .i / ROW = omega (arith, c .if1 .left) in rw (c .before .enum-told2 .given .1, z),
+  λ f m k lo hi. let z : k / ROW ≡ c .before .before .before .args .i / ROW = omega (arith, c .if1 .left) in rw (c .before .enum-told2 .given .1, z),
 )
 
 returns-4 : tie.Need-returns-4
-returns-4 c = (omega arith, omega arith, λ F m k lo hi. let z : k ≡ c .before .before .args .i = omega arith in rw z)
+returns-4 c = (omega arith, omega arith, λ f m k lo hi. let z : k ≡ c .before .before .args .i = omega arith in rw z)
 
 returns-5 : tie.Need-returns-5
-returns-5 c = (omega arith, omega arith, λ F m k lo hi. rw (c .enum-told4 .given .1))
+returns-5 c = (omega arith, omega arith, λ f m k lo hi. rw (c .enum-told4 .given .1))
 
 pub same-until-spec : {M : Type 1} → statement M
 same-until-spec =

@@ -1,7 +1,7 @@
 -- `entries::link::link_page` meets its contract: the word names the page, and its store is the next one.
 use borrow.Author.Needs.{needs}
 use Rattle.table.specs.Board.{frameOf}
-use Rattle.entries.proofs.Places.{next-store, stored}
+use Rattle.shapes.proofs.Places.{next-store, stored}
 use Rattle.model.specs.Entry.{encode}
 use Rattle.model.specs.Stores.{storeL2}
 use Rattle.model.specs.Walk.{entryPage, entryPlace}
@@ -34,7 +34,7 @@ returns : tie.Need-returns
 unfolding encode storeL2 entryPage entryPlace
 returns c =
     let a = c .before .before .before .before .before .before .before .before .before .args in
-    stored (frameOf (a .edit .f) (a .words .now)) (a .edit .root .0) (a .new .b) _ (c .before .before .before .before .before .before .page-at .ensures .0) (a .left) (a .words .now) (c .before .before .before .narrow .ensures) (c .before .before .put .ensures)
+    stored (frameOf (a .edit .f) (a .words .now)) (a .edit .root .0) (a .new .b) _ (c .before .before .before .before .before .before .page-at .ensures .0) (a .words .now) (c .before .before .before .narrow .ensures) (a .left) (c .before .before .put .ensures)
 
 pub link-page-spec : {M : Type 1} → statement M
 link-page-spec =

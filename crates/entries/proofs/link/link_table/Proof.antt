@@ -1,16 +1,17 @@
--- `entries::link::link_table` meets its contract: the page is filled while it is ahead of the link, and the link comes next.
+-- `entries::link::link_table` meets its contract: the list is the page's entries and then the link, so once the page is filled the link is what is
+-- left.
 use mathlib.Core.Path.{_≡_, refl, sym, ap, _∙_}
 use mathlib.Core.Bool.{true, false, not}
 use mathlib.Core.List.{List, [], _∷_, _++_}
 use Prim.Native.Nat.{ℕ}
 use lib.ListN.{length}
 use borrow.Author.Needs.{needs}
-use Rattle.table.specs.Board.{board, frameOf}
-use Rattle.entries.proofs.Places.{frame-same, lent-same}
-use Rattle.entries.specs.Ahead.{Ahead}
-use Rattle.entries.proofs.Order.{ahead-of, Remaining, remaining-start, remaining-ahead, remaining-next, remaining-cut}
-use Rattle.entries.proofs.Runs.{went-whole, went-cut}
-use Rattle.entries.specs.Run.{out, run}
+use Rattle.table.specs.Board.{board, frameOf, frameOver}
+use Rattle.shapes.proofs.Places.{lent-same}
+use Rattle.shapes.specs.Ahead.{Ahead}
+use Rattle.shapes.proofs.Order.{ahead-of, Remaining, remaining-start, remaining-ahead, remaining-next, remaining-cut}
+use Rattle.shapes.proofs.Runs.{progress-all, progress-cut}
+use Rattle.shapes.specs.Run.{out, run}
 use Rattle.types.specs.declared.Budget.{Budget}
 use Rattle.types.specs.declared.Progress.{Progress}
 use Rattle.model.specs.Entry.{table, encode}
@@ -56,10 +57,10 @@ module _ (k : tie.After-fill-page) where
 
   cut : not (answer .all) ≡ true → out (answer .all) (answer .left) filled ≡ run (begun .args .left) (page begun ++ link begun) found
   unfolding linkTable
-  cut z = let x = went-cut answer filled z in x ∙ remaining-cut (first begun) _ _ refl (sym x ∙ made)
+  cut z = let x = progress-cut answer filled z in x ∙ remaining-cut (first begun) _ _ refl (sym x ∙ made)
 
   then : not (answer .all) ≡ false → On begun (answer .left) filled (link begun)
-  then z = remaining-next (first begun) _ _ refl (sym (went-whole answer filled z) ∙ made)
+  then z = remaining-next (first begun) _ _ refl (sym (progress-all answer filled z) ∙ made)
 
 fill-page-requires : tie.Need-fill-page-requires
 fill-page-requires c κs =
@@ -80,9 +81,9 @@ link-page-requires c κs =
     let el = c .before .before in
     let k = el .before .before .before .before in
     let a = begun k .args in
-    let root : lent (frameOf (a .edit .f) (filled k)) (a .edit .root .0) ≡ true = lent-same (a .edit .f) (found k) (filled k) (kept k) (a .edit .root .0) (begun k .pre .5) in
+    let root : lent (frameOf (a .edit .f) (filled k)) (a .edit .root .0) ≡ true = lent-same (frameOver (a .edit .f)) (found k) (filled k) (kept k) (a .edit .root .0) (begun k .pre .5) in
     let next : Ahead (filled k) (storeL2 (frameOf (a .edit .f) (filled k)) (a .edit .root .0) (a .new .b) (encode board (table (a .new .page .0))) ∷ [])
-    = ahead-of (ap (λ (X : Frame). storeL2 X (a .edit .root .0) (a .new .b) (encode board (table (a .new .page .0))) ∷ []) (frame-same (a .edit .f) (found k) (filled k) (sym (kept k)))) (then k (el .if1 .left) .next) in
+    = ahead-of (ap (λ (X : Frame). storeL2 X (a .edit .root .0) (a .new .b) (encode board (table (a .new .page .0))) ∷ []) (ap (frameOver (a .edit .f)) (sym (kept k)))) (then k (el .if1 .left) .next) in
     search needs
 
 same-length-2 : tie.Need-same-length-2
@@ -94,7 +95,7 @@ returns-2 c =
     let k = el .before .before .before .before in
     let a = begun k .args in
     c .before .before .link-page .ensures
-    ∙ ap (λ (X : Frame). run (answer k .left) (storeL2 X (a .edit .root .0) (a .new .b) (encode board (table (a .new .page .0))) ∷ []) (filled k)) (frame-same (a .edit .f) (filled k) (found k) (kept k))
+    ∙ ap (λ (X : Frame). run (answer k .left) (storeL2 X (a .edit .root .0) (a .new .b) (encode board (table (a .new .page .0))) ∷ []) (filled k)) (ap (frameOver (a .edit .f)) (kept k))
     ∙ sym (then k (el .if1 .left) .same)
 
 pub link-table-spec : {M : Type 1} → statement M

@@ -1,7 +1,8 @@
 -- `entries::own::own_table` meets its contract: outside the range no entry changes, so there is nothing to store.
 use native.Mathlib.Omega.{arith}
 use borrow.Author.Needs.{needs}
-use Rattle.entries.proofs.OwnPage.{own-none}
+use Rattle.forms.proofs.BoardShape.{board-shape}
+use Rattle.shapes.proofs.OwnPage.{own-none}
 use Rattle.types.specs.Views.{requestOf}
 use Rattle.entries.proofs.own.own_table.Statement.{statement}
 use Rattle.entries.proofs.own.own_table.Tie as tie
@@ -31,8 +32,8 @@ returns : tie.Need-returns
 returns c =
     let s = c .before .before .before .before in
     let a = s .args in
-    own-none (a .edit .f) (a .words .now) (requestOf (a .edit .q)) (s .pre .1 .small) (a .t .0) (a .b) (s .pre .2) (rw (c .enum-told .given .1) at (c .before .before .lies .ensures))
-    (λ j. omega (arith, c .before .before .before .slice-known .given j)) (a .left)
+    own-none (record { shape = board-shape; long = omega arith; typed = λ j. omega (arith, c .before .before .before .slice-known .given j); low = s .pre .1 .small; good = s .pre .2 }) (a .b)
+    (rw (c .enum-told .given .1) at (c .before .before .lies .ensures)) (a .left)
 
 same-length : tie.Need-same-length
 same-length c = search needs

@@ -1,7 +1,7 @@
 -- `entries::own::same_entry` meets its contract: the word is that of the entry, and its store, if it changes, is the next one.
 use borrow.Author.Needs.{needs}
 use Rattle.table.specs.Board.{frameOf}
-use Rattle.entries.proofs.Places.{next-if, stored-if}
+use Rattle.shapes.proofs.Places.{next-if, stored-if}
 use Rattle.entries.proofs.own.same_entry.Statement.{statement}
 use Rattle.entries.proofs.own.same_entry.Tie as tie
 
@@ -26,7 +26,7 @@ same-length c = search needs
 returns : tie.Need-returns
 returns c =
     let a = c .before .before .before .before .before .before .before .before .before .args in
-    stored-if (frameOf (a .edit .f) (a .words .now)) (a .t .0) (a .i) _ (c .before .before .before .before .before .before .page-at .ensures .0) (a .left) (a .words .now) (c .before .before .before .before .after-word .ensures) (c .before .before .put-changed .ensures)
+    stored-if (frameOf (a .edit .f) (a .words .now)) (a .t .0) (a .i) _ (c .before .before .before .before .before .before .page-at .ensures .0) (a .words .now) (c .before .before .before .before .after-word .ensures) (a .left) (c .before .before .put-changed .ensures)
 
 pub same-entry-spec : {M : Type 1} → statement M
 same-entry-spec =

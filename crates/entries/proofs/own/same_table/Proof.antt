@@ -1,20 +1,19 @@
--- `entries::own::same_table` meets its contract: the loop keeps `Same`: entries outside the range have no store in the list.
-use mathlib.Core.Path.{sym, _∙_, subst}
+-- `entries::own::same_table` meets its contract: the loop keeps `Same`: the entries that are left decide the whole page, and those that lie outside
+-- the range have no store in the list.
+use mathlib.Core.Path.{_∙_}
 use Prim.Native.Nat.{_-_}
 use native.Mathlib.Omega.{arith}
 use borrow.Author.Needs.{needs}
-use Rattle.model.specs.Frame.{Frame}
-use Rattle.entries.proofs.OwnPage.{Same, same-start, same-ahead, same-next, same-cut, same-end}
-use Rattle.entries.proofs.Places.{frame-same}
-use Rattle.entries.proofs.Runs.{went-whole, went-cut}
+use Rattle.shapes.proofs.OwnPage.{Same, same-start, same-good, same-ahead, same-next, same-cut, same-end}
+use Rattle.shapes.proofs.Runs.{progress-all, progress-cut}
 use Rattle.types.specs.Views.{requestOf}
-use Rattle.model.specs.Entry.{table}
-use Rattle.shapes.specs.Rooted.{Good}
+use Rattle.table.specs.Board.{frameOver}
+use Rattle.forms.proofs.BoardShape.{board-shape}
 use Rattle.entries.proofs.own.same_table.Statement.{statement}
 use Rattle.entries.proofs.own.same_table.Tie as tie
 
 abbrev Inv-loop : tie.InvT-loop
-Inv-loop edit words₀ t b from to more₀ i₀ words more i = Same (edit .f) (requestOf (edit .q)) (t .0) b words₀ more₀ words more i
+Inv-loop edit words₀ t b from to more₀ i₀ words more i = Same (frameOver (edit .f)) (requestOf (edit .q)) (t .0) b words₀ more₀ words more i
 
 abbrev μ-loop : tie.MeasureT-loop
 μ-loop edit words₀ t b from to more₀ i₀ words more i = to - i
@@ -29,7 +28,8 @@ loop-holds : tie.Need-loop-holds Inv-loop μ-loop
 loop-holds c =
     let s = c .before .before .before in
     let r = c .before .first-entry in
-    same-start _ _ _ _ _ _ (s .pre .1 .small) (s .pre .2) (λ j. omega (arith, c .before .before .slice-known .given j)) _ (r .ensures .0) (r .ensures .1) (s .pre .3)
+    same-start (record { shape = board-shape; long = omega arith; typed = λ j. omega (arith, c .before .before .slice-known .given j); low = s .pre .1 .small; good = s .pre .2 })
+    (r .result) (r .ensures .0) (r .ensures .1) (s .pre .3)
 
 same-entry-requires : tie.Need-same-entry-requires Inv-loop μ-loop
 same-entry-requires c κs =
@@ -38,8 +38,8 @@ same-entry-requires c κs =
       s .pre .0,
       omega (arith, l .before .past-entry .ensures .0),
       s .pre .1,
-      subst (λ (X : Frame). Good X (l .loop .words) (table (s .args .t .0))) (sym (frame-same (s .args .edit .f) (l .loop .words) (s .args .words .now) (l .loop .inv .size))) (l .loop .inv .good),
-      same-ahead _ _ _ _ _ _ (s .pre .1 .small) (l .loop .words) (l .loop .more) (l .loop .i) (l .loop .inv) (omega (arith, l .before .past-entry .ensures .0, c .before .loop-test .taken)),
+      same-good (l .loop .inv),
+      same-ahead (l .loop .inv) (omega (arith, l .before .past-entry .ensures .0, c .before .loop-test .taken)),
     )
 
 same-length : tie.Need-same-length Inv-loop μ-loop
@@ -49,9 +49,8 @@ returns : tie.Need-returns Inv-loop μ-loop
 returns c =
     let r = c .before .before .before .before .same-entry in
     let l = c .before .before .before .before .before .before .before in
-    let s = l .before .before .before .before in
-    same-cut _ _ _ _ _ _ (s .pre .1 .small) (l .loop .words) (l .loop .more) (l .loop .i) (l .loop .inv) (omega (arith, l .before .past-entry .ensures .0, c .before .before .before .before .before .before .loop-test .taken)) _ (r .ensures)
-    (went-cut (r .result) (r .last .1 .0) (c .if1 .taken))
+    same-cut (l .loop .inv) (omega (arith, l .before .past-entry .ensures .0, c .before .before .before .before .before .before .loop-test .taken)) (r .ensures)
+    (progress-cut (r .result) (r .last .1 .0) (c .if1 .taken))
 
 add-i : tie.Need-add-i Inv-loop μ-loop
 add-i c = let s = c .before .before .before .before .before .before .before .before .loop .inv in omega arith
@@ -63,9 +62,8 @@ loop-again : tie.Need-loop-again Inv-loop μ-loop
 loop-again c =
     let r = c .before .before .before .before .before .same-entry in
     let l = c .before .before .before .before .before .before .before .before in
-    let s = l .before .before .before .before in
-    same-next _ _ _ _ _ _ (s .pre .1 .small) (l .loop .words) (l .loop .more) (l .loop .i) (l .loop .inv) (omega (arith, l .before .past-entry .ensures .0, c .before .before .before .before .before .before .before .loop-test .taken)) _ (r .ensures)
-    (went-whole (r .result) (r .last .1 .0) (c .before .if1 .left))
+    same-next (l .loop .inv) (omega (arith, l .before .past-entry .ensures .0, c .before .before .before .before .before .before .before .loop-test .taken)) (r .ensures)
+    (progress-all (r .result) (r .last .1 .0) (c .before .if1 .left))
 
 same-length-2 : tie.Need-same-length-2 Inv-loop μ-loop
 same-length-2 c = c .before .loop .inv .size
@@ -73,8 +71,7 @@ same-length-2 c = c .before .loop .inv .size
 returns-2 : tie.Need-returns-2 Inv-loop μ-loop
 returns-2 c =
     let l = c .before in
-    let s = l .before .before .before .before in
-    same-end _ _ _ _ _ _ (s .pre .1 .small) (s .pre .2) (λ j. omega (arith, l .before .before .before .slice-known .given j)) _ (l .before .past-entry .ensures .1) _ _ _ (l .loop .inv) (c .loop-test .left)
+    same-end (l .loop .inv) _ (l .before .past-entry .ensures .1) (c .loop-test .left)
 
 pub same-table-spec : {M : Type 1} → statement M
 same-table-spec =

@@ -8,8 +8,8 @@ use borrow.Author.Needs.{needs}
 use Rattle.model.specs.Numbers.{if_then_else_}
 use Rattle.model.specs.Stores.{Store}
 use Rattle.table.specs.Stored.{storeOf}
-use Rattle.entries.specs.Run.{run}
-use Rattle.entries.proofs.Runs.{run-none}
+use Rattle.shapes.specs.Run.{run}
+use Rattle.shapes.proofs.Runs.{run-none}
 use Rattle.entries.proofs.put.put_changed.Statement.{statement}
 use Rattle.entries.proofs.put.put_changed.Tie as tie
 

@@ -1,10 +1,10 @@
--- `entries::put::put_next` meets its contract: one store of the list, and the budget that it leaves.
+-- `entries::put::put_next` meets its contract: the store is the one that is ahead, so it turns what limit k leaves into what limit k + 1 leaves.
 use mathlib.Core.Path.{sym, ap, _∙_}
 use Prim.Native.Nat.{_-_}
 use native.Mathlib.Omega.{arith}
-use Rattle.entries.proofs.Order.{turned}
-use Rattle.entries.proofs.Runs.{run-one}
-use Rattle.entries.specs.Run.{allMade}
+use Rattle.shapes.proofs.Order.{turned}
+use Rattle.shapes.proofs.Runs.{run-one}
+use Rattle.shapes.specs.Run.{allMade}
 use Rattle.table.specs.Stored.{storeOf}
 use borrow.Author.Needs.{needs}
 use Rattle.entries.proofs.put.put_next.Statement.{statement}

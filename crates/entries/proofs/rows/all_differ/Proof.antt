@@ -1,11 +1,11 @@
--- `entries::rows::all_differ` meets its contract: after i turns the answer is that of the first i words.
+-- `entries::rows::all_differ` meets its contract: after i steps of the loop the answer is that of the first i words.
 use mathlib.Core.Path.{_≡_, refl, sym, ap, _∙_}
 use mathlib.Core.Bool.{Bool, _&&_}
 use Prim.Native.Nat.{ℕ, _+_, _-_, _≤_}
 use native.Mathlib.Omega.{arith}
 use Rattle.model.specs.Numbers.{every}
 use Rattle.laws.proofs.Every.{every-next-last}
-use Rattle.entries.specs.Rows.{differs}
+use Rattle.shapes.specs.Rows.{differs}
 use Rattle.entries.proofs.rows.all_differ.Statement.{statement}
 use Rattle.entries.proofs.rows.all_differ.Tie as tie
 

@@ -3,11 +3,11 @@ use mathlib.Core.Path.{_≡_, ap, _∙_}
 use mathlib.Core.List.{[], _∷_}
 use Prim.Native.Nat.{ℕ, _-_, _≤_}
 use native.Mathlib.Omega.{arith}
-use Rattle.entries.proofs.Order.{ahead-joined}
-use Rattle.entries.proofs.RowLaws.{Filled, fill-start, fill-next}
+use Rattle.shapes.proofs.Order.{ahead-joined}
+use Rattle.shapes.proofs.RowLaws.{Filled, fill-start, fill-next}
 use Rattle.table.specs.Stored.{storeOf}
-use Rattle.entries.specs.Run.{run}
-use Rattle.entries.specs.Rows.{fillStores}
+use Rattle.shapes.specs.Run.{run}
+use Rattle.shapes.specs.Rows.{fillStores}
 use Rattle.entries.proofs.rows.fill.Statement.{statement}
 use Rattle.entries.proofs.rows.fill.Tie as tie
 
@@ -18,7 +18,7 @@ abbrev μ-loop : tie.MeasureT-loop
 μ-loop words₀ at n word rest₀ i₀ words rest i = n - i
 
 loop-holds : tie.Need-loop-holds Inv-loop μ-loop
-loop-holds c = (omega arith, fill-start _ _ _ _)
+loop-holds c = (omega arith, fill-start)
 
 add-put-next : tie.Need-add-put-next Inv-loop μ-loop
 add-put-next c = let l = c .before .before in omega (arith, l .before .before .pre .0, l .loop .inv .1 .size)
@@ -42,7 +42,7 @@ loop-again : tie.Need-loop-again Inv-loop μ-loop
 loop-again c =
     let l = c .before .before .before .before .before in
     let r = c .before .before .put-next in
-    (omega (arith, c .before .before .before .before .loop-test .taken), fill-next _ _ _ _ (l .loop .words) (l .loop .rest) (l .loop .i) (l .loop .inv .1) _ _ (r .ensures .0))
+    (omega (arith, c .before .before .before .before .loop-test .taken), fill-next (l .loop .inv .1) (r .ensures .0))
 
 same-length : tie.Need-same-length Inv-loop μ-loop
 same-length c = c .before .loop .inv .1 .size

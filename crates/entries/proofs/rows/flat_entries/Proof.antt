@@ -1,4 +1,4 @@
--- `entries::rows::flat_entries` meets its contract: where all entries change, those that change are all.
+-- `entries::rows::flat_entries` meets its contract: where every entry of a GiB changes, the stores of those that change are the stores of all.
 use mathlib.Core.Path.{_≡_, sym, ap, _∙_}
 use mathlib.Core.List.{List}
 use Prim.Native.Nat.{ℕ}
@@ -6,11 +6,11 @@ use native.Mathlib.Omega.{arith}
 use borrow.Author.Tests.{not-false}
 use borrow.Author.Needs.{needs}
 use Rattle.model.specs.Stores.{Store}
-use Rattle.entries.specs.Run.{run}
-use Rattle.entries.specs.Ahead.{Ahead}
-use Rattle.entries.specs.Rows.{rowStores, fillStores}
-use Rattle.entries.proofs.Order.{ahead-of}
-use Rattle.entries.proofs.RowLaws.{row-fills}
+use Rattle.shapes.specs.Run.{run}
+use Rattle.shapes.specs.Ahead.{Ahead}
+use Rattle.shapes.specs.Rows.{rowStores, fillStores}
+use Rattle.shapes.proofs.Order.{ahead-of}
+use Rattle.shapes.proofs.RowLaws.{row-fills}
 use Rattle.entries.proofs.rows.flat_entries.Statement.{statement}
 use Rattle.entries.proofs.rows.flat_entries.Tie as tie
 

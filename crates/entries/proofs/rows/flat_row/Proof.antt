@@ -1,11 +1,12 @@
--- `entries::rows::flat_row` meets its contract: the loop keeps what is left of the row.
+-- `entries::rows::flat_row` meets its contract: the loop keeps `InRow`: the words before place i are done, and the others stand as they were, so that
+-- whether one changes is asked of what the call found.
 use mathlib.Core.Path.{_≡_, refl, ap, _∙_}
 use Prim.Native.Nat.{ℕ, _-_, _≤_}
 use native.Mathlib.Omega.{arith}
-use Rattle.entries.proofs.RowLaws.{InRow, row-start, row-ahead, row-next, row-cut}
-use Rattle.entries.proofs.Runs.{went-whole, went-cut}
-use Rattle.entries.specs.Run.{run}
-use Rattle.entries.specs.Rows.{rowStores}
+use Rattle.shapes.proofs.RowLaws.{InRow, row-start, row-ahead, row-next, row-cut}
+use Rattle.shapes.proofs.Runs.{progress-all, progress-cut}
+use Rattle.shapes.specs.Run.{run}
+use Rattle.shapes.specs.Rows.{rowStores}
 use Rattle.entries.proofs.rows.flat_row.Statement.{statement}
 use Rattle.entries.proofs.rows.flat_row.Tie as tie
 
@@ -16,7 +17,7 @@ abbrev μ-loop : tie.MeasureT-loop
 μ-loop words₀ at n word more₀ i₀ words more i = n - i
 
 loop-holds : tie.Need-loop-holds Inv-loop μ-loop
-loop-holds c = (omega arith, row-start _ _ _ _)
+loop-holds c = (omega arith, row-start)
 
 add-put-changed : tie.Need-add-put-changed Inv-loop μ-loop
 add-put-changed c = let l = c .before .before in omega (arith, l .before .before .pre .0, l .loop .inv .1 .size)
@@ -26,7 +27,7 @@ put-changed-requires c κs =
     let l = c .before .before in
     let s = l .before .before in (
       omega (arith, s .pre .0, l .loop .inv .1 .size),
-      row-ahead _ _ _ _ (l .loop .words) (l .loop .more) (l .loop .i) (l .loop .inv .1) _ refl (s .args .n) (c .before .loop-test .taken) (s .pre .1),
+      row-ahead (l .loop .inv .1) refl (s .args .n) (c .before .loop-test .taken) (s .pre .1),
     )
 
 same-length : tie.Need-same-length Inv-loop μ-loop
@@ -36,8 +37,8 @@ returns : tie.Need-returns Inv-loop μ-loop
 returns c =
     let r = c .before .before .before .before .put-changed in
     let l = c .before .before .before .before .before .before .before in
-    row-cut _ _ _ _ (l .loop .words) (l .loop .more) (l .loop .i) (l .loop .inv .1) _ refl _ (r .ensures)
-    (went-cut (r .result) (r .last .0) (c .if1 .taken)) _ (c .before .before .before .before .before .before .loop-test .taken)
+    row-cut (l .loop .inv .1) refl (r .ensures)
+    (progress-cut (r .result) (r .last .0) (c .if1 .taken)) _ (c .before .before .before .before .before .before .loop-test .taken)
 
 add-i : tie.Need-add-i Inv-loop μ-loop
 add-i c = omega (arith, c .before .before .before .before .before .before .before .loop-test .taken)
@@ -50,8 +51,8 @@ loop-again c =
     let r = c .before .before .before .before .before .put-changed in
     let l = c .before .before .before .before .before .before .before .before in (
       omega (arith, c .before .before .before .before .before .before .before .loop-test .taken),
-      row-next _ _ _ _ (l .loop .words) (l .loop .more) (l .loop .i) (l .loop .inv .1) _ refl _ (r .ensures)
-          (went-whole (r .result) (r .last .0) (c .before .if1 .left)),
+      row-next (l .loop .inv .1) refl (r .ensures)
+          (progress-all (r .result) (r .last .0) (c .before .if1 .left)),
     )
 
 same-length-2 : tie.Need-same-length-2 Inv-loop μ-loop

@@ -1,24 +1,26 @@
--- `entries::rows::pieces_row` meets its contract: the loop keeps what is left of the row, which the first entry with an L1 page ends.
+-- `entries::rows::pieces_row` meets its contract: the loop keeps `InRow`, and that no entry before place i has an L1 page; the first that has one ends
+-- the row.
 use mathlib.Core.Path.{_≡_, sym, ap, _∙_}
 use Prim.Native.Nat.{ℕ, _+_, _-_, _≤_, _<_}
 use native.Mathlib.Omega.{arith}
 use lib.ListN.{getD}
-use Rattle.entries.proofs.RowLaws.{InRow, row-start, row-ahead, row-next, row-said, one-more}
-use Rattle.entries.proofs.Runs.{went-whole, went-cut}
-use Rattle.entries.specs.Run.{run}
-use Rattle.entries.specs.Rows.{rowStores, piecesWord}
+use Rattle.shapes.proofs.RowLaws.{InRow, row-start, row-ahead, row-next, row-said, one-more}
+use Rattle.shapes.proofs.Runs.{progress-all, progress-cut}
+use Rattle.shapes.specs.Run.{run}
+use Rattle.shapes.specs.Rows.{rowStores, piecesWord}
+use Rattle.table.specs.Board.{board}
 use Rattle.entries.proofs.rows.pieces_row.Statement.{statement}
 use Rattle.entries.proofs.rows.pieces_row.Tie as tie
 
 abbrev Inv-loop : tie.InvT-loop
 Inv-loop words₀ at n more₀ i₀ words more i =
-    (i ≤ n) × InRow piecesWord words₀ more₀ at words more i × ((k : ℕ) → at ≤ k → k < at + i → piecesWord (getD words₀ k 0) ≡ 0 → ⊥)
+    (i ≤ n) × InRow (piecesWord board) words₀ more₀ at words more i × ((k : ℕ) → at ≤ k → k < at + i → piecesWord board (getD words₀ k 0) ≡ 0 → ⊥)
 
 abbrev μ-loop : tie.MeasureT-loop
 μ-loop words₀ at n more₀ i₀ words more i = n - i
 
 loop-holds : tie.Need-loop-holds Inv-loop μ-loop
-loop-holds c = (omega arith, row-start _ _ _ _, λ k lo hi. absurd (omega arith))
+loop-holds c = (omega arith, row-start, λ k lo hi. absurd (omega arith))
 
 add-pieces-word : tie.Need-add-pieces-word Inv-loop μ-loop
 add-pieces-word c = let l = c .before in omega (arith, l .before .before .pre .0, l .loop .inv .1 .size)
@@ -48,9 +50,9 @@ put-changed-requires c κs =
     let w = c .before .before .pieces-word in
     let less = c .before .before .before .before .loop-test .taken in (
       omega (arith, s .pre .0, l .loop .inv .1 .size),
-      row-ahead _ _ _ _ (l .loop .words) (l .loop .more) (l .loop .i) (l .loop .inv .1) _ (w .ensures) (l .loop .i + 1) (omega arith)
+      row-ahead (l .loop .inv .1) (w .ensures) (l .loop .i + 1) (omega arith)
           (s .pre .1 (l .loop .i + 1) (omega (arith, less))
-          (one-more (λ k. piecesWord (getD (s .args .words .now) k 0) ≡ 0 → ⊥) _ _ (l .loop .inv .2) (λ z. c .before .if1 .left (w .ensures ∙ ap piecesWord (l .loop .inv .1 .ahead _ (omega arith)) ∙ z)))),
+          (one-more (λ k. piecesWord board (getD (s .args .words .now) k 0) ≡ 0 → ⊥) _ _ (l .loop .inv .2) (λ z. c .before .if1 .left (w .ensures ∙ ap (piecesWord board) (l .loop .inv .1 .ahead _ (omega arith)) ∙ z)))),
     )
 
 add-t17 : tie.Need-add-t17 Inv-loop μ-loop
@@ -65,9 +67,9 @@ returns-2 c =
     let r = c .before .before .before .before .before .put-changed in
     let w = c .before .before .before .before .before .before .before .before .pieces-word in (
       omega (arith, c .before .before .before .before .before .before .before .before .before .before .loop-test .taken),
-      one-more (λ k. piecesWord (getD (l .before .before .args .words .now) k 0) ≡ 0 → ⊥) _ _ (l .loop .inv .2) (λ z. c .before .before .before .before .before .before .before .if1 .left (w .ensures ∙ ap piecesWord (l .loop .inv .1 .ahead _ (omega arith)) ∙ z)),
-      sym (went-cut (r .result) (r .last .0) (c .if2 .taken))
-          ∙ row-said _ _ _ _ (l .loop .words) (l .loop .more) (l .loop .i) (l .loop .inv .1) _ (w .ensures) _ (r .ensures),
+      one-more (λ k. piecesWord board (getD (l .before .before .args .words .now) k 0) ≡ 0 → ⊥) _ _ (l .loop .inv .2) (λ z. c .before .before .before .before .before .before .before .if1 .left (w .ensures ∙ ap (piecesWord board) (l .loop .inv .1 .ahead _ (omega arith)) ∙ z)),
+      sym (progress-cut (r .result) (r .last .0) (c .if2 .taken))
+          ∙ row-said (l .loop .inv .1) (w .ensures) (r .ensures),
     )
 
 add-i : tie.Need-add-i Inv-loop μ-loop
@@ -82,9 +84,9 @@ loop-again c =
     let r = c .before .before .before .before .before .put-changed in
     let w = c .before .before .before .before .before .before .before .before .pieces-word in (
       omega (arith, c .before .before .before .before .before .before .before .before .before .before .loop-test .taken),
-      row-next _ _ _ _ (l .loop .words) (l .loop .more) (l .loop .i) (l .loop .inv .1) _ (w .ensures) _ (r .ensures)
-          (went-whole (r .result) (r .last .0) (c .if2 .left)),
-      one-more (λ k. piecesWord (getD (l .before .before .args .words .now) k 0) ≡ 0 → ⊥) _ _ (l .loop .inv .2) (λ z. c .before .before .before .before .before .before .before .if1 .left (w .ensures ∙ ap piecesWord (l .loop .inv .1 .ahead _ (omega arith)) ∙ z)),
+      row-next (l .loop .inv .1) (w .ensures) (r .ensures)
+          (progress-all (r .result) (r .last .0) (c .if2 .left)),
+      one-more (λ k. piecesWord board (getD (l .before .before .args .words .now) k 0) ≡ 0 → ⊥) _ _ (l .loop .inv .2) (λ z. c .before .before .before .before .before .before .before .if1 .left (w .ensures ∙ ap (piecesWord board) (l .loop .inv .1 .ahead _ (omega arith)) ∙ z)),
     )
 
 same-length-3 : tie.Need-same-length-3 Inv-loop μ-loop
@@ -97,7 +99,7 @@ returns-3 c =
     let z : l .loop .i ≡ s .args .n = omega (arith, l .loop .inv .0, c .loop-test .left) in (
       omega arith,
       λ k lo hi. l .loop .inv .2 k lo (omega (arith, z)),
-      l .loop .inv .1 .done ∙ ap (λ (k : ℕ). run (s .args .left) (rowStores (s .args .words .now) piecesWord k (s .args .at)) (s .args .words .now)) z,
+      l .loop .inv .1 .done ∙ ap (λ (k : ℕ). run (s .args .left) (rowStores (s .args .words .now) (piecesWord board) k (s .args .at)) (s .args .words .now)) z,
     )
 
 pub pieces-row-spec : {M : Type 1} → statement M

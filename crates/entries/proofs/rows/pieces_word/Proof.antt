@@ -1,9 +1,9 @@
--- `entries::rows::pieces_word` meets its contract: by what the word says.
+-- `entries::rows::pieces_word` meets its contract: by what the word decodes to, whose permission or INFO is small enough that the sum fits a word.
 use mathlib.Core.Path.{sym, ap, _∙_, subst}
 use Prim.Native.Nat.{_<_}
 use native.Mathlib.Omega.{arith}
-use Rattle.table.specs.Board.{INFO}
-use Rattle.entries.specs.Rows.{piecesOf}
+use Rattle.table.specs.Board.{board, INFO}
+use Rattle.shapes.specs.Rows.{piecesOf}
 use Rattle.table.specs.Bounds.{Small}
 use Rattle.types.specs.Views.{entryOf}
 use borrow.Author.Needs.{needs}
@@ -47,16 +47,16 @@ enum-told-2 : tie.Need-enum-told-2
 enum-told-2 c = search needs
 
 returns : tie.Need-returns
-returns c = c .narrow .ensures ∙ ap piecesOf (sym (ap entryOf (c .before .before .p .given .1)) ∙ c .before .before .before .before .decode .ensures .0)
+returns c = c .narrow .ensures ∙ ap (piecesOf board) (sym (ap entryOf (c .before .before .p .given .1)) ∙ c .before .before .before .before .decode .ensures .0)
 
 returns-2 : tie.Need-returns-2
-returns-2 c = c .narrow2 .ensures ∙ ap piecesOf (sym (ap entryOf (c .before .before .info .given .1)) ∙ c .before .before .before .before .decode .ensures .0)
+returns-2 c = c .narrow2 .ensures ∙ ap (piecesOf board) (sym (ap entryOf (c .before .before .info .given .1)) ∙ c .before .before .before .before .decode .ensures .0)
 
 returns-3 : tie.Need-returns-3
-returns-3 c = ap piecesOf (sym (ap entryOf (c .enum-told .given .1)) ∙ c .before .before .decode .ensures .0)
+returns-3 c = ap (piecesOf board) (sym (ap entryOf (c .enum-told .given .1)) ∙ c .before .before .decode .ensures .0)
 
 returns-4 : tie.Need-returns-4
-returns-4 c = ap piecesOf (sym (ap entryOf (c .enum-told2 .given .1)) ∙ c .before .before .decode .ensures .0)
+returns-4 c = ap (piecesOf board) (sym (ap entryOf (c .enum-told2 .given .1)) ∙ c .before .before .decode .ensures .0)
 
 pub pieces-word-spec : {M : Type 1} → statement M
 pieces-word-spec =

@@ -26,28 +26,28 @@ Inv-loop edit words e b info₀ j₀ info j =
 abbrev μ-loop : tie.MeasureT-loop
 μ-loop edit words e b info₀ j₀ info j = PIECES - j
 
--- whether the turn's piece is of one permission
-turn-one : (c : tie.After-piece-at Inv-loop μ-loop) → let l = c .before .before in let a = l .before .before .args in
+-- whether the piece at hand is of one permission
+piece-one : (c : tie.After-piece-at Inv-loop μ-loop) → let l = c .before .before in let a = l .before .before .args in
     c .piece-at .result .one ≡ isOne (frameOf (a .edit .f) (a .words .now)) (a .words .now) (requestOf (a .edit .q)) (entryOf (a .e)) (a .b) ((PIECES - 1) - l .loop .j)
-turn-one c =
+piece-one c =
     let l = c .before .before in
     let a = l .before .before .args in
     c .piece-at .ensures .1
     ∙ ap (λ (p : ℕ). allAre (frameOf (a .edit .f) (a .words .now)) (a .words .now) (requestOf (a .edit .q)) (entryOf (a .e)) p PIECE (a .b * 8192 + ((PIECES - 1) - l .loop .j) * PIECE)) (c .piece-at .ensures .0)
 
-turn-info : (c : tie.Else1 Inv-loop μ-loop) → let l = c .before .before .before .before in let a = l .before .before .args in
+next-info : (c : tie.Else1 Inv-loop μ-loop) → let l = c .before .before .before .before in let a = l .before .before .args in
     c .before .before .piece-at .result .p + 4 * l .loop .info ≡ pack 4 (firstOf (frameOf (a .edit .f) (a .words .now)) (a .words .now) (requestOf (a .edit .q)) (entryOf (a .e)) (a .b)) (l .loop .j + 1) (PIECES - (l .loop .j + 1))
-turn-info c =
+next-info c =
     let l = c .before .before .before .before in
     let a = l .before .before .args in
     horner 4 (firstOf (frameOf (a .edit .f) (a .words .now)) (a .words .now) (requestOf (a .edit .q)) (entryOf (a .e)) (a .b)) PIECES 0 (l .loop .j) (l .loop .info) (c .before .before .piece-at .result .p) (omega arith) (l .loop .inv .1) (c .before .before .piece-at .ensures .0 ∙ ap (firstOf (frameOf (a .edit .f) (a .words .now)) (a .words .now) (requestOf (a .edit .q)) (entryOf (a .e)) (a .b)) (sym (zero-add ((PIECES - 1) - l .loop .j))))
 
-turn-fits : (c : tie.Else1 Inv-loop μ-loop) → c .before .before .piece-at .result .p + 4 * c .before .before .before .before .loop .info < INFO
-turn-fits c =
+next-fits : (c : tie.Else1 Inv-loop μ-loop) → c .before .before .piece-at .result .p + 4 * c .before .before .before .before .loop .info < INFO
+next-fits c =
     let l = c .before .before .before .before in
     let a = l .before .before .args in
     let pre = l .before .before .pre in
-    subst (λ (k : ℕ). k < INFO) (sym (turn-info c))
+    subst (λ (k : ℕ). k < INFO) (sym (next-info c))
     (pack4-fits (firstOf (frameOf (a .edit .f) (a .words .now)) (a .words .now) (requestOf (a .edit .q)) (entryOf (a .e)) (a .b))
     (λ k. after-small (a .edit .f .paw) (a .edit .f .first .0) (length (a .words .now) / WORDS) (a .words .now) (requestOf (a .edit .q)) (pre .1 .small) (entryOf (a .e)) (pre .2) (a .b * 8192 + k * PIECE))
     (l .loop .j + 1) (PIECES - (l .loop .j + 1)) (omega arith))
@@ -68,13 +68,13 @@ returns c =
     let a = l .before .before .args in
     form-table (a .edit .f .paw) (a .edit .f .first .0) (length (a .words .now) / WORDS) (a .words .now) (requestOf (a .edit .q)) (entryOf (a .e)) (a .b)
     (every-fail (isOne (frameOf (a .edit .f) (a .words .now)) (a .words .now) (requestOf (a .edit .q)) (entryOf (a .e)) (a .b)) PIECES ((PIECES - 1) - l .loop .j) (omega arith)
-    (sym (turn-one (c .before .before)) ∙ not-true _ (c .if1 .taken)))
+    (sym (piece-one (c .before .before)) ∙ not-true _ (c .if1 .taken)))
 
 mul-info : tie.Need-mul-info Inv-loop μ-loop
-mul-info c = record { fits = omega (arith, turn-fits c) }
+mul-info c = record { fits = omega (arith, next-fits c) }
 
 add-info : tie.Need-add-info Inv-loop μ-loop
-add-info c = record { fits = omega (arith, turn-fits (c .before)) }
+add-info c = record { fits = omega (arith, next-fits (c .before)) }
 
 add-j : tie.Need-add-j Inv-loop μ-loop
 add-j c = omega arith
@@ -87,9 +87,9 @@ loop-again c =
     let l = c .before .before .before .before .before in
     let a = l .before .before .args in (
       omega arith,
-      turn-info (c .before),
+      next-info (c .before),
       every-down (isOne (frameOf (a .edit .f) (a .words .now)) (a .words .now) (requestOf (a .edit .q)) (entryOf (a .e)) (a .b)) PIECES (l .loop .j) (omega arith) (l .loop .inv .2)
-          (sym (turn-one (c .before .before .before)) ∙ not-false _ (c .before .if1 .left)),
+          (sym (piece-one (c .before .before .before)) ∙ not-false _ (c .before .if1 .left)),
     )
 
 returns-2 : tie.Need-returns-2 Inv-loop μ-loop

@@ -4,11 +4,11 @@ use Prim.Native.Nat.{ℕ, _+_, _-_, _*_, _/_}
 use native.Mathlib.Omega.{arith}
 use mathlib.Core.Bool.{Bool}
 use lib.ListN.{length}
-use Rattle.table.specs.Board.{WORDS, PIECES, PIECE, EACHPIECE}
+use Rattle.table.specs.Board.{board, WORDS, PIECES, PIECE, EACHPIECE}
 use Rattle.types.specs.Range.{Cut}
 use Rattle.forms.proofs.EvenLaws.{mixed-first, mixed-past, even-spliced}
 use Rattle.forms.proofs.SpliceLaws.{splice-bits}
-use Rattle.forms.specs.Permissions.{Mixes}
+use Rattle.shapes.specs.Blocks.{Mixes}
 use Rattle.laws.proofs.Splices.{spliced}
 use Rattle.model.specs.Forms.{wantPieces}
 use Rattle.types.specs.Views.{entryOf, requestOf}
@@ -27,8 +27,8 @@ not-empty : (s : tie.Start) → let q = s .args .edit .q in (q .start .0 + 4095)
 not-empty s z = omega (arith, z, s .pre .1 .starts, s .pre .1 .whole, s .pre .1 .some)
 
 -- what `mixes` says of an end
-mixing : (s : tie.Start) (n n′ : ℕ) (r r′ : Bool) → n ≡ n′ → r ≡ r′ → let a = s .args in Mixes (requestOf (a .edit .q)) (a .b) (a .info) n r → Mixes (requestOf (a .edit .q)) (a .b) (a .info) n′ r′
-mixing s n n′ r r′ z w h = let a = s .args in subst (λ (x : ℕ). Mixes (requestOf (a .edit .q)) (a .b) (a .info) x r′) z (subst (Mixes (requestOf (a .edit .q)) (a .b) (a .info) n) w h)
+mixing : (s : tie.Start) (n n′ : ℕ) (r r′ : Bool) → n ≡ n′ → r ≡ r′ → let a = s .args in Mixes board (requestOf (a .edit .q)) (a .b) (a .info) n r → Mixes board (requestOf (a .edit .q)) (a .b) (a .info) n′ r′
+mixing s n n′ r r′ z w h = let a = s .args in subst (λ (x : ℕ). Mixes board (requestOf (a .edit .q)) (a .b) (a .info) x r′) z (subst (Mixes board (requestOf (a .edit .q)) (a .b) (a .info) n) w h)
 
 add-past : tie.Need-add-past
 add-past c = search needs

@@ -24,9 +24,9 @@ Inv-loop edit words g p i₀ i =
 abbrev μ-loop : tie.MeasureT-loop
 μ-loop edit words g p i₀ i = 32 - i
 
-turn : (c : tie.After-block-is Inv-loop μ-loop) → let l = c .before .before .before in let a = l .before .before .args in
+block-here : (c : tie.After-block-is Inv-loop μ-loop) → let l = c .before .before .before in let a = l .before .before .args in
     c .block-is .result ≡ blockIs (frameOf (a .edit .f) (a .words .now)) (a .words .now) (requestOf (a .edit .q)) (a .edit .root .0) (a .p) (a .g * 32 + l .loop .i)
-turn c =
+block-here c =
     let l = c .before .before .before in
     let a = l .before .before .args in
     c .block-is .ensures
@@ -62,7 +62,7 @@ returns c =
     let l = c .before .before .before .before in
     let a = l .before .before .args in
     sym (l .loop .inv .1
-    ∙ every-stop (blockIs (frameOf (a .edit .f) (a .words .now)) (a .words .now) (requestOf (a .edit .q)) (a .edit .root .0) (a .p)) 32 (a .g * 32) (l .loop .i) (omega arith) (sym (turn (c .before)) ∙ not-true _ (c .if1 .taken)))
+    ∙ every-stop (blockIs (frameOf (a .edit .f) (a .words .now)) (a .words .now) (requestOf (a .edit .q)) (a .edit .root .0) (a .p)) 32 (a .g * 32) (l .loop .i) (omega arith) (sym (block-here (c .before)) ∙ not-true _ (c .if1 .taken)))
 
 add-i : tie.Need-add-i Inv-loop μ-loop
 add-i c = omega arith
@@ -76,7 +76,7 @@ loop-again c =
     let a = l .before .before .args in (
       omega arith,
       l .loop .inv .1
-          ∙ every-next (blockIs (frameOf (a .edit .f) (a .words .now)) (a .words .now) (requestOf (a .edit .q)) (a .edit .root .0) (a .p)) 32 (a .g * 32) (l .loop .i) (omega arith) (sym (turn (c .before)) ∙ not-false _ (c .if1 .left)),
+          ∙ every-next (blockIs (frameOf (a .edit .f) (a .words .now)) (a .words .now) (requestOf (a .edit .q)) (a .edit .root .0) (a .p)) 32 (a .g * 32) (l .loop .i) (omega arith) (sym (block-here (c .before)) ∙ not-false _ (c .if1 .left)),
     )
 
 returns-2 : tie.Need-returns-2 Inv-loop μ-loop

@@ -9,7 +9,6 @@ use Rattle.table.specs.Board.{WORDS, PIECE, ROW, frameOf}
 use Rattle.forms.proofs.EntryLaws.{run-outside}
 use Rattle.forms.proofs.Fields.{eqb-swap, index-add}
 use Rattle.forms.proofs.FormLaws.{piece-words}
-use Rattle.forms.specs.Permissions.{spreadOf}
 use Rattle.model.specs.Entry.{Entry}
 use Rattle.model.specs.Forms.{allAre, permOf}
 use Rattle.model.specs.Frame.{indexOf}

@@ -8,9 +8,9 @@ use borrow.Author.Needs.{needs}
 use borrow.Author.Tests.{eq-eqb, ne-eqb}
 use lib.Dec.{eqb}
 use lib.ListN.{length}
-use Rattle.table.specs.Board.{WORDS, FIELDS, PIECE, ROW, frameOf}
+use Rattle.table.specs.Board.{board, WORDS, FIELDS, PIECE, ROW, frameOf}
 use Rattle.forms.proofs.EntryLaws.{word-is, words-next, words-stop, all-none}
-use Rattle.forms.specs.Permissions.{spreadOf}
+use Rattle.shapes.specs.Words.{spreadOf}
 use Rattle.model.specs.Forms.{allAre}
 use Rattle.types.specs.Views.{entryOf, requestOf}
 use Rattle.forms.proofs.pieces.words_are.Statement.{statement}
@@ -18,17 +18,17 @@ use Rattle.forms.proofs.pieces.words_are.Tie as tie
 
 abbrev Inv-loop : tie.InvT-loop
 Inv-loop edit words e b i p want j₀ j =
-    (j ≤ ROW) × (want ≡ spreadOf p)
+    (j ≤ ROW) × (want ≡ spreadOf board p)
     × (allAre (frameOf (edit .f) words) words (requestOf (edit .q)) (entryOf e) p PIECE (b * 8192 + i * FIELDS) ≡ allAre (frameOf (edit .f) words) words (requestOf (edit .q)) (entryOf e) p (PIECE - j * FIELDS) (b * 8192 + (i + j) * FIELDS))
 
 abbrev μ-loop : tie.MeasureT-loop
 μ-loop edit words e b i p want j₀ j = ROW - j
 
--- what the turn's entryOf says of its pages
-turn : (c : tie.After-after-word Inv-loop μ-loop) → let l = c .before .before in let a = l .before .before .before .args in
+-- what the entry at hand says of its pages
+word-here : (c : tie.After-after-word Inv-loop μ-loop) → let l = c .before .before in let a = l .before .before .before .args in
     eqb (c .after-word .result) (l .before .spread .result)
     ≡ allAre (frameOf (a .edit .f) (a .words .now)) (a .words .now) (requestOf (a .edit .q)) (entryOf (a .e)) (a .p) FIELDS (a .b * 8192 + (a .i + l .loop .j) * FIELDS)
-turn c =
+word-here c =
     let l = c .before .before in
     let a = l .before .before .before .args in
     let pre = l .before .before .before .pre in
@@ -57,7 +57,7 @@ returns c =
     let pre = l .before .before .before .pre in
     sym (l .loop .inv .2
     ∙ words-stop (a .edit .f .paw) (a .edit .f .first .0) (length (a .words .now) / WORDS) (a .words .now) (requestOf (a .edit .q)) (pre .3 .small) (entryOf (a .e)) (pre .4) (a .b) (a .i) (l .loop .j) (a .p) (omega arith)
-    (sym (turn (c .before)) ∙ ne-eqb _ _ (c .if1 .taken)))
+    (sym (word-here (c .before)) ∙ ne-eqb _ _ (c .if1 .taken)))
 
 add-j : tie.Need-add-j Inv-loop μ-loop
 add-j c = omega arith
@@ -74,7 +74,7 @@ loop-again c =
       l .before .spread .ensures,
       l .loop .inv .2
           ∙ words-next (a .edit .f .paw) (a .edit .f .first .0) (length (a .words .now) / WORDS) (a .words .now) (requestOf (a .edit .q)) (pre .3 .small) (entryOf (a .e)) (pre .4) (a .b) (a .i) (l .loop .j) (a .p) (omega arith)
-          (sym (turn (c .before)) ∙ eq-eqb _ _ (c .if1 .left)),
+          (sym (word-here (c .before)) ∙ eq-eqb _ _ (c .if1 .left)),
     )
 
 returns-2 : tie.Need-returns-2 Inv-loop μ-loop

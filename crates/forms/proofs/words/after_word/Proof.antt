@@ -6,7 +6,7 @@ use native.Mathlib.Omega.{arith}
 use borrow.Author.Needs.{needs}
 use Rattle.table.specs.Board.{WORDS, FIELDS, ENTRY}
 use Rattle.forms.proofs.EntryLaws.{word-inside, word-outside, word-across}
-use Rattle.forms.specs.Permissions.{mixedAt}
+use Rattle.shapes.specs.Words.{mixedAt}
 use Rattle.model.specs.Numbers.{pack}
 use Rattle.types.specs.Views.{entryOf, requestOf}
 use Rattle.forms.proofs.words.after_word.Statement.{statement}

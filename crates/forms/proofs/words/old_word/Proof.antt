@@ -2,8 +2,8 @@
 use mathlib.Core.Path.{_∙_, ap}
 use borrow.Author.Needs.{needs}
 use Rattle.laws.proofs.Frames.{word-at}
-use Rattle.table.specs.Board.{frameOf}
-use Rattle.forms.specs.Permissions.{spreadOf}
+use Rattle.table.specs.Board.{board, frameOf}
+use Rattle.shapes.specs.Words.{spreadOf}
 use Rattle.model.specs.Frame.{wordAt}
 use Rattle.forms.proofs.words.old_word.Statement.{statement}
 use Rattle.forms.proofs.words.old_word.Tie as tie
@@ -48,7 +48,7 @@ returns : tie.Need-returns
 returns c = rw (c .before .before .e .given .1) (c .spread .ensures)
 
 returns-2 : tie.Need-returns-2
-returns-2 c = rw (c .before .before .before .e2 .given .1) (c .spread2 .ensures ∙ ap spreadOf (c .before .piece .ensures .0))
+returns-2 c = rw (c .before .before .before .e2 .given .1) (c .spread2 .ensures ∙ ap (spreadOf board) (c .before .piece .ensures .0))
 
 returns-3 : tie.Need-returns-3
 unfolding wordAt

@@ -1,4 +1,5 @@
--- Making a list of stores up to a limit.
+-- Making a list of stores up to a limit: a run of two lists is a run of the first and then one of the second, and a run comes to the first
+-- stores of its list, as many as the limit allows.
 use mathlib.Core.Path.{_≡_, refl, sym, ap, _∙_}
 use mathlib.Core.Bool.{Bool, true, false, not}
 use mathlib.Core.List.{List, [], _∷_, _++_}
@@ -7,7 +8,7 @@ use native.Mathlib.Omega.{arith}
 use native.Mathlib.Numerals.{add-one}
 use lib.ListN.{length, take, set}
 use borrow.Author.Tests.{not-true, not-false}
-use Rattle.entries.specs.Run.{Out, allMade, limitReached, out, andThen, runFrom, run}
+use Rattle.shapes.specs.Run.{Out, allMade, limitReached, out, andThen, runFrom, run}
 use Rattle.types.specs.declared.Budget.{Budget}
 use Rattle.types.specs.declared.Progress.{Progress}
 use Rattle.model.specs.Numbers.{joined}
@@ -63,11 +64,11 @@ out-cut all l n z = ap (λ (b : Bool). out b l n) z
 
 -- the same from the code's test, which asks whether not all were made
 module _ (r : Progress) (n : List ℕ) where
-  pub went-whole : not (r .all) ≡ false → out (r .all) (r .left) n ≡ allMade (r .left) n
-  went-whole z = out-whole (r .all) (r .left) n (not-false (r .all) z)
+  pub progress-all : not (r .all) ≡ false → out (r .all) (r .left) n ≡ allMade (r .left) n
+  progress-all z = out-whole (r .all) (r .left) n (not-false (r .all) z)
 
-  pub went-cut : not (r .all) ≡ true → out (r .all) (r .left) n ≡ limitReached n
-  went-cut z = out-cut (r .all) (r .left) n (not-true (r .all) z)
+  pub progress-cut : not (r .all) ≡ true → out (r .all) (r .left) n ≡ limitReached n
+  progress-cut z = out-cut (r .all) (r .left) n (not-true (r .all) z)
 
 -- ---- a list of stores that is joined from a run of lists
 
@@ -80,9 +81,9 @@ module _ (left : Budget) (ss : List Store) (m : List ℕ) where
   run-off e ts = run-append left ss ts m ∙ ap (λ (o : Out). andThen o (λ k x. run k ts x)) (sym e)
 
 module _ (g : ℕ → List Store) (n i : ℕ) (h : i < n) where
-  pub joined-turn : joined g (n - i) i ≡ g i ++ joined g (n - (i + 1)) (i + 1)
+  pub joined-next : joined g (n - i) i ≡ g i ++ joined g (n - (i + 1)) (i + 1)
   unfolding joined
-  joined-turn =
+  joined-next =
       let a : n - i ≡ suc (n - (i + 1)) = omega arith in
       ap (λ (k : ℕ). joined g k i) a ∙ ap (λ (k : ℕ). g i ++ joined g (n - (i + 1)) k) (sym (add-one i))
 

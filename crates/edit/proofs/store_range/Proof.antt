@@ -1,7 +1,8 @@
--- `edit::store_blocks` meets its contract: the loop's invariant is `LoopInvariant`: what is left of the edit decides the whole.
+-- `edit::store_range` meets its contract: before each step of the loop the edit stands before block b (`LoopInvariant`), so that the stores that
+-- are left decide the whole; past the last block none is left.
 use mathlib.Core.List.{List}
-use Rattle.types.specs.declared.Frame as code
-use Rattle.types.specs.declared.Request as code′
+use Rattle.types.specs.declared.Frame.{Frame}
+use Rattle.types.specs.declared.Request as code
 use mathlib.Core.Path.{_≡_, refl, sym, ap, ap₂, _∙_, subst}
 use mathlib.Core.Bool.{Bool, true, false}
 use Prim.Native.Nat.{ℕ, _+_, _-_, _*_, _/_, _≤_, _<_}
@@ -9,26 +10,27 @@ use native.Mathlib.Omega.{arith}
 use borrow.Author.Tests.{not-true, not-false}
 use lib.ListN.{length}
 use Rattle.sequence.proofs.Facts.{Facts, facts}
-use Rattle.sequence.proofs.LoopInvariant.{LoopInvariant, turn-start, turn-rooted, turn-room, turn-flag, turn-fresh, turn-ahead, turn-cut, turn-next, turn-end}
-use Rattle.sequence.proofs.Invariant.{size}
-use Rattle.entries.proofs.Runs.{out-whole, out-cut}
+use Rattle.sequence.proofs.LoopInvariant.{LoopInvariant, invariant-start, invariant-rooted, invariant-room, invariant-flag, invariant-new-page, invariant-ahead, invariant-cut, invariant-next, invariant-end, invariant-length}
+use Rattle.shapes.proofs.Runs.{out-whole, out-cut}
 use Rattle.types.specs.declared.Gib.{Gib}
 use Rattle.types.specs.Range.{Fair}
-use Rattle.edit.proofs.store_blocks.Statement.{statement}
+use Rattle.edit.proofs.store_range.Statement.{statement}
 use Rattle.types.specs.Views.{requestOf, freeList}
-use Rattle.edit.proofs.store_blocks.Tie as tie
+use Rattle.table.specs.Board.{frameOf, frameOver}
+use Rattle.forms.proofs.BoardShape.{board-shape}
+use Rattle.edit.proofs.store_range.Tie as tie
 
 abbrev Inv-loop : tie.InvT-loop
-Inv-loop edit words₀ free end b₀ gib₀ next₀ left₀ words b gib next left = LoopInvariant (edit .f) words₀ (requestOf (edit .q)) (edit .root .0) (freeList free) left₀ end words b gib next left
+Inv-loop edit words₀ free end b₀ gib₀ next₀ left₀ words b gib next left = LoopInvariant (frameOver (edit .f)) words₀ (requestOf (edit .q)) (edit .root .0) (freeList free) left₀ end words b gib next left
 
 abbrev μ-loop : tie.MeasureT-loop
 μ-loop edit words₀ free end b₀ gib₀ next₀ left₀ words b gib next left = end - b
 
-known : (c : tie.After-struct-known Inv-loop μ-loop) → let a = c .before .before .args in Facts (a .edit .f) (a .words .now) (requestOf (a .edit .q)) (a .edit .root .0) (freeList (a .free))
-known c = let s = c .before .before in facts (s .args .edit .f) (s .args .words .now) (requestOf (s .args .edit .q)) (s .args .edit .root .0) (freeList (s .args .free)) (s .pre)
+known : (c : tie.After-struct-known Inv-loop μ-loop) → let a = c .before .before .args in Facts (frameOf (a .edit .f) (a .words .now)) (a .words .now) (requestOf (a .edit .q)) (a .edit .root .0) (freeList (a .free))
+known c = let s = c .before .before in facts (frameOf (s .args .edit .f) (s .args .words .now)) board-shape (s .args .words .now) (requestOf (s .args .edit .q)) (s .args .edit .root .0) (freeList (s .args .free)) (s .pre)
 
-fair : {f : code.Frame} {m : List ℕ} {q : code′.Request} {root : ℕ} {free : List ℕ} → Facts f m (requestOf q) root free → Fair q
-fair k = record { small = k .low; starts = k .starts; whole = k .whole; some = k .some; ends = omega (arith, k .ends) }
+fair : (f : Frame) {m : List ℕ} {q : code.Request} {root : ℕ} {free : List ℕ} → Facts (frameOf f m) m (requestOf q) root free → Fair q
+fair f k = record { small = k .low; starts = k .starts; whole = k .whole; some = k .some; ends = omega (arith, k .ends) }
 
 add-end : tie.Need-add-end Inv-loop μ-loop
 add-end c = let k = known c in record { fits = omega (arith, k .ends) }
@@ -46,18 +48,16 @@ mul-b : tie.Need-mul-b Inv-loop μ-loop
 mul-b c = let k = known (c .before) in record { fits = omega (arith, k .ends) }
 
 loop-holds : tie.Need-loop-holds Inv-loop μ-loop
-loop-holds c =
-    let a = c .before .before .before .args in
-    turn-start (known (c .before)) refl refl
+loop-holds c = invariant-start (known (c .before)) refl refl
 
 gib-at-requires : tie.Need-gib-at-requires Inv-loop μ-loop
 gib-at-requires c κs =
     let l = c .before .before in
     let a = l .before .before .before .before .args in (
-      turn-rooted (l .loop .inv) (omega arith),
-      turn-room (l .loop .inv) (omega arith),
-      fair (l .loop .inv .k),
-      turn-flag (l .loop .inv) (omega arith),
+      invariant-rooted (l .loop .inv),
+      invariant-room (l .loop .inv) (omega arith),
+      fair (a .edit .f) (l .loop .inv .k),
+      invariant-flag (l .loop .inv) (omega arith),
     )
 
 next-blocks-requires : tie.Need-next-blocks-requires Inv-loop μ-loop
@@ -65,34 +65,32 @@ next-blocks-requires c κs =
     let l = c .before .before .before .before in
     let a = l .before .before .before .before .args in
     let t = l .loop .inv in (
-      turn-rooted t (omega arith),
-      turn-room t (omega arith),
-      fair (t .k),
+      invariant-rooted t,
+      invariant-room t (omega arith),
+      fair (a .edit .f) (t .k),
       c .before .gib-at .ensures .2,
-      omega (arith, t .going .taken, t .k .few),
-      turn-fresh t (omega arith)
+      omega (arith, t .atBlock .taken, t .k .few),
+      invariant-new-page t (omega arith)
           (c .before .gib-at .result) (c .before .gib-at .ensures),
-      turn-ahead t (omega arith)
+      invariant-ahead t (omega arith)
           (c .before .gib-at .result) (c .before .gib-at .ensures),
     )
 
 same-length : tie.Need-same-length Inv-loop μ-loop
 same-length c =
     let l = c .before .before .before .before .before .before .before .before .before in
-    let a = l .before .before .before .before .args in
     let t = l .loop .inv in
-    c .before .before .before .before .next-blocks .kept .1 .0 ∙ size (t .going)
+    c .before .before .before .before .next-blocks .kept .1 .0 ∙ invariant-length t
 
 returns : tie.Need-returns Inv-loop μ-loop
 returns c =
     let l = c .before .before .before .before .before .before .before .before .before in
-    let a = l .before .before .before .before .args in
     let t = l .loop .inv in
     let r = c .before .before .before .before .next-blocks in
     let g = c .before .before .before .before .before .before .gib-at in
     let z = out-cut (r .result .all) (r .result .left) (r .last .1 .0) (not-true (r .result .all) (c .if1 .taken)) in
-    sym z ∙ turn-cut t (c .before .before .before .before .before .before .before .before .loop-test .taken)
-    (g .result) (g .ensures) (r .result .count) (r .ensures .within) _ (r .ensures .made) z
+    sym z ∙ invariant-cut t (c .before .before .before .before .before .before .before .before .loop-test .taken)
+    (g .result) (g .ensures) (r .result .count) (r .ensures .within) (r .ensures .made) z
 
 add-b : tie.Need-add-b Inv-loop μ-loop
 add-b c =
@@ -106,29 +104,21 @@ loop-less c = omega (arith, c .before .before .before .before .before .before .n
 loop-again : tie.Need-loop-again Inv-loop μ-loop
 loop-again c =
     let l = c .before .before .before .before .before .before .before .before .before .before .before in
-    let a = l .before .before .before .before .args in
     let t = l .loop .inv in
     let r = c .before .before .before .before .before .before .next-blocks in
     let g = c .before .before .before .before .before .before .before .before .gib-at in
     let z = out-whole (r .result .all) (r .result .left) (r .last .1 .0) (not-false (r .result .all) (c .before .before .if1 .left)) in
-    turn-next t (c .before .before .before .before .before .before .before .before .before .before .loop-test .taken)
-    (g .result) (g .ensures) (r .result .count) (r .ensures .within) _ (r .ensures .made) z (r .result .next) (r .ensures .pages)
+    invariant-next t (c .before .before .before .before .before .before .before .before .before .before .loop-test .taken)
+    (g .result) (g .ensures) (r .result .count) (r .ensures .within) (r .ensures .made) z (r .result .next) (r .ensures .pages)
 
 same-length-2 : tie.Need-same-length-2 Inv-loop μ-loop
-same-length-2 c =
-    let l = c .before in
-    let a = l .before .before .before .before .args in
-    let t = l .loop .inv in
-    size (t .going)
+same-length-2 c = invariant-length (c .before .loop .inv)
 
 returns-2 : tie.Need-returns-2 Inv-loop μ-loop
-returns-2 c =
-    let l = c .before in
-    let a = l .before .before .before .before .args in
-    turn-end (l .loop .inv) (c .loop-test .left)
+returns-2 c = invariant-end (c .before .loop .inv) (c .loop-test .left)
 
-pub store-blocks-spec : {M : Type 1} → statement M
-store-blocks-spec =
+pub store-range-spec : {M : Type 1} → statement M
+store-range-spec =
     tie.close
     (tie.spec
     Inv-loop

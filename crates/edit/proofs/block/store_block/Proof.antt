@@ -1,15 +1,15 @@
--- `edit::block::block_stores` meets its contract: by the finished form: its entry, or its L1 page.
+-- `edit::block::store_block` meets its contract: the finished form says which stores there are: that of the entry, if it changes, or those of the
+-- L1 page.
 use mathlib.Core.Path.{_≡_, refl, sym, ap, _∙_, subst}
 use Prim.Native.Nat.{ℕ, _<_, _^_}
 use native.Mathlib.Omega.{arith}
 use borrow.Author.Needs.{needs}
-use Rattle.sequence.specs.Blocks.{Encodes}
 use Rattle.model.specs.Entry.{encode}
 use Rattle.model.specs.Forms.{wantTable}
 use Rattle.model.specs.Stores.{needsPage, blockStores}
 use Rattle.types.specs.Views.{entryOf, formOf}
-use Rattle.edit.proofs.block.block_stores.Statement.{statement}
-use Rattle.edit.proofs.block.block_stores.Tie as tie
+use Rattle.edit.proofs.block.store_block.Statement.{statement}
+use Rattle.edit.proofs.block.store_block.Tie as tie
 use Rattle.table.specs.Board.{INFO}
 
 enum-known-form : tie.Need-enum-known-form
@@ -53,8 +53,8 @@ put-entry-requires-2 c κs =
 enum-told : tie.Need-enum-told
 enum-told c = search needs
 
-table-stores-requires : tie.Need-table-stores-requires
-table-stores-requires c κs =
+store-table-requires : tie.Need-store-table-requires
+store-table-requires c κs =
     let s = c .before .before .before .before in
     (s .pre .0, s .pre .1, s .pre .2, s .pre .3, rw (c .before .enum-told .given .1) at (s .pre .4), rw (c .before .enum-told .given .1) at (s .pre .6))
 
@@ -76,10 +76,10 @@ same-length-3 : tie.Need-same-length-3
 same-length-3 c = search needs
 
 returns-3 : tie.Need-returns-3
-returns-3 c = rw (c .before .before .before .before .enum-told .given .1) (c .before .before .table-stores .ensures)
+returns-3 c = rw (c .before .before .before .before .enum-told .given .1) (c .before .before .store-table .ensures)
 
-pub block-stores-spec : {M : Type 1} → statement M
-block-stores-spec =
+pub store-block-spec : {M : Type 1} → statement M
+store-block-spec =
     tie.close
     (tie.spec
     enum-known-form
@@ -91,7 +91,7 @@ block-stores-spec =
     narrow-requires-2
     put-entry-requires-2
     enum-told
-    table-stores-requires
+    store-table-requires
     same-length
     returns
     same-length-2

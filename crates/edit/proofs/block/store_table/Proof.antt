@@ -1,4 +1,4 @@
--- `edit::block::table_stores` meets its contract: a block that has an L1 page keeps it, and any other gets a new one.
+-- `edit::block::store_table` meets its contract: a block that has an L1 page keeps it, and any other gets a new one.
 use mathlib.Core.Path.{_≡_, refl, sym, ap, _∙_}
 use mathlib.Core.Bool.{true}
 use mathlib.Core.List.{List, [], _∷_}
@@ -8,9 +8,9 @@ use native.Mathlib.Omega.{arith}
 use denote.Enum.Declared.{tagOf}
 use types.Run.{OneOf}
 use borrow.Author.Needs.{needs}
-use Rattle.entries.specs.Pages.{Plain}
-use Rattle.entries.specs.Run.{run}
-use Rattle.entries.proofs.Order.{ahead-of}
+use Rattle.shapes.specs.Pages.{Plain}
+use Rattle.shapes.specs.Run.{run}
+use Rattle.shapes.proofs.Order.{ahead-of}
 use Rattle.model.specs.Entry as entry
 use Rattle.model.specs.Forms.{Request, wantTable}
 use Rattle.model.specs.Frame.{Frame}
@@ -20,8 +20,8 @@ use Rattle.types.specs.Views.{entryOf, requestOf}
 use Rattle.types.specs.declared.Entry.{Entry}
 use Rattle.types.specs.declared.Entry.the-variants.{Flat, Pieces, Table, Invalid}
 use Rattle.types.proofs.Entry as declared
-use Rattle.edit.proofs.block.table_stores.Statement.{statement}
-use Rattle.edit.proofs.block.table_stores.Tie as tie
+use Rattle.edit.proofs.block.store_table.Statement.{statement}
+use Rattle.edit.proofs.block.store_table.Tie as tie
 
 -- what is no `Entry::Table` names no page
 plain-of : (e : Entry) → OneOf (0 ∷ 1 ∷ 3 ∷ []) (tagOf declared.the-type e) → Plain (entryOf e)
@@ -91,7 +91,7 @@ returns-2 c =
     ∙ ap (λ (ss : List Store). run (a .left) ss (a .words .now))
     (sym (plain-stores (frameOf (a .edit .f) (a .words .now)) (a .words .now) (requestOf (a .edit .q)) (a .edit .root .0) (entryOf (a .e)) (a .b) (a .new .0) (plain-here k)))
 
-pub table-stores-spec : {M : Type 1} → statement M
-table-stores-spec =
+pub store-table-spec : {M : Type 1} → statement M
+store-table-spec =
     tie.close
     (tie.spec enum-known-e own-table-requires same-length returns link-table-requires same-length-2 returns-2)
