@@ -5,7 +5,7 @@ use native.Mathlib.Omega.{arith}
 use lib.Dec.{ltb}
 use borrow.Author.Tests.{le-leb, lt-leb, lt-ltb}
 use borrow.Author.Needs.{needs}
-use Rattle.forms.proofs.Fields.{index-add}
+use Rattle.shapes.proofs.Fields.{index-add}
 use Rattle.model.specs.Fence.{inRoot}
 use Rattle.model.specs.Frame.{blocks, indexOf}
 use Rattle.edit.proofs.in_root.Statement.{statement}

@@ -9,9 +9,10 @@ use Rattle.model.specs.Forms.{l1Word}
 use Rattle.model.specs.Frame.{indexOf}
 use Rattle.model.specs.Stores.{Store}
 use Rattle.types.specs.Views.{entryOf, requestOf}
+use Rattle.forms.proofs.BoardShape.{board-shape}
 use Rattle.shapes.specs.Words.{oldWord}
-use Rattle.forms.proofs.EntryLaws.{word-outside}
-use Rattle.table.specs.Board.{WORDS, ENTRY, frameOf}
+use Rattle.shapes.proofs.EntryLaws.{word-outside}
+use Rattle.table.specs.Board.{ENTRY, frameOf}
 use Rattle.shapes.specs.Rows.{fillStores}
 use Rattle.shapes.specs.Run.{run}
 use Rattle.shapes.specs.Ahead.{Ahead}
@@ -57,7 +58,7 @@ word-of c k lo hi =
     let m = a .words .now in
     let same : c .old-word .result ≡ oldWord (frameOf (a .edit .f) m) m (entryOf (a .new .e)) k = c .old-word .ensures ∙ sym (s .pre .8 k lo hi) in
     same
-    ∙ word-outside (a .edit .f .paw) (a .edit .f .first .0) (length m / WORDS) m (requestOf (a .edit .q)) (s .pre .3 .small) (entryOf (a .new .e)) (s .pre .4) (a .new .b) k (omega (arith, s .pre .1))
+    ∙ word-outside (frameOf (a .edit .f) m) board-shape m (requestOf (a .edit .q)) (s .pre .3 .small) (entryOf (a .new .e)) (s .pre .4) (a .new .b) k (omega (arith, s .pre .1))
     (subst (λ (w : ℕ). w < ENTRY) same (omega arith))
     (λ j l h. s .pre .7 j (omega arith) (omega arith))
 

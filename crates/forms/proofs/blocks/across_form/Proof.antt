@@ -2,8 +2,9 @@
 use Prim.Native.Nat.{_/_, _<_}
 use native.Mathlib.Omega.{arith}
 use lib.ListN.{length}
-use Rattle.table.specs.Board.{WORDS, INFO, frameOf}
-use Rattle.forms.proofs.EvenLaws.{even-flat, even-pieces}
+use Rattle.table.specs.Board.{INFO, frameOf}
+use Rattle.forms.proofs.BoardShape.{board-shape}
+use Rattle.shapes.proofs.EvenLaws.{even-flat, even-pieces}
 use borrow.Author.Needs.{needs}
 use Rattle.forms.proofs.blocks.across_form.Statement.{statement}
 use Rattle.forms.proofs.blocks.across_form.Tie as tie
@@ -30,7 +31,7 @@ even-form-requires-2 c κs =
     let s = c .before .before .before .before in
     let a = s .args in
     let h : c .before .e2 .given .0 .0 < INFO = rw (c .before .e2 .given .1) at (s .pre .2) in
-    (s .pre .0, s .pre .1, h, h, even-pieces (a .edit .f .paw) (a .edit .f .first .0) (length (a .words .now) / WORDS) (a .words .now) (c .before .e2 .given .0 .0) (a .b))
+    (s .pre .0, s .pre .1, h, h, even-pieces (frameOf (a .edit .f) (a .words .now)) board-shape (a .words .now) (c .before .e2 .given .0 .0) (a .b))
 
 enum-told : tie.Need-enum-told
 enum-told c = search needs

@@ -4,9 +4,9 @@ use Prim.Native.Nat.{_+_, _/_, _%_}
 use native.Mathlib.Omega.{arith}
 use borrow.Author.Tests.{not-true}
 use lib.ListN.{length}
-use Rattle.table.specs.Board.{WORDS, PIECES, PIECEBYTES, frameOf}
-use Rattle.forms.proofs.FormLaws.{isOne, form-table}
-use Rattle.forms.proofs.Fields.{every-fail}
+use Rattle.table.specs.Board.{PIECES, PIECEBYTES, frameOf}
+use Rattle.shapes.proofs.FormLaws.{isOne, form-table}
+use Rattle.shapes.proofs.Fields.{every-fail}
 use Rattle.types.specs.Views.{entryOf, requestOf}
 use borrow.Author.Needs.{needs}
 use Rattle.forms.proofs.blocks.cut_form.Statement.{statement}
@@ -18,7 +18,7 @@ piece-is-one-requires c κs = search needs
 returns : tie.Need-returns
 returns c = let s = c .before .before .before .before in
     let a = s .args in
-    form-table (a .edit .f .paw) (a .edit .f .first .0) (length (a .words .now) / WORDS) (a .words .now) (requestOf (a .edit .q)) (entryOf (a .e)) (a .b)
+    form-table (frameOf (a .edit .f) (a .words .now)) (a .words .now) (requestOf (a .edit .q)) (entryOf (a .e)) (a .b)
     (every-fail (isOne (frameOf (a .edit .f) (a .words .now)) (a .words .now) (requestOf (a .edit .q)) (entryOf (a .e)) (a .b)) PIECES (a .edit .q .start .0 / PIECEBYTES % PIECES) (omega arith)
     (sym (c .before .piece-is-one .ensures) ∙ not-true _ (c .if1 .taken)))
 
@@ -31,7 +31,7 @@ piece-is-one-requires-2 c κs = search needs
 returns-2 : tie.Need-returns-2
 returns-2 c = let s = c .before .before .before .before .before .before .before in
     let a = s .args in
-    form-table (a .edit .f .paw) (a .edit .f .first .0) (length (a .words .now) / WORDS) (a .words .now) (requestOf (a .edit .q)) (entryOf (a .e)) (a .b)
+    form-table (frameOf (a .edit .f) (a .words .now)) (a .words .now) (requestOf (a .edit .q)) (entryOf (a .e)) (a .b)
     (every-fail (isOne (frameOf (a .edit .f) (a .words .now)) (a .words .now) (requestOf (a .edit .q)) (entryOf (a .e)) (a .b)) PIECES ((a .edit .q .start .0 + a .edit .q .size) / PIECEBYTES % PIECES) (omega arith)
     (sym (c .before .piece-is-one2 .ensures) ∙ not-true _ (c .if2 .taken)))
 

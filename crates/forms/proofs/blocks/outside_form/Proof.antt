@@ -4,8 +4,9 @@ use Prim.Native.Nat.{ℕ, _/_, _<_}
 use native.Mathlib.Omega.{arith}
 use borrow.Author.Needs.{needs}
 use lib.ListN.{length}
-use Rattle.table.specs.Board.{WORDS}
-use Rattle.forms.proofs.FormLaws.{form-flat-out, form-pieces-out}
+use Rattle.table.specs.Board.{frameOf}
+use Rattle.forms.proofs.BoardShape.{board-shape}
+use Rattle.shapes.proofs.FormLaws.{form-flat-out, form-pieces-out}
 use Rattle.types.specs.Views.{entryOf, requestOf}
 use Rattle.forms.proofs.blocks.outside_form.Statement.{statement}
 use Rattle.forms.proofs.blocks.outside_form.Tie as tie
@@ -35,13 +36,13 @@ returns : tie.Need-returns
 returns c =
     let s = c .before .before .before .before in
     let a = s .args in
-    form-flat-out (a .edit .f .paw) (a .edit .f .first .0) (length (a .words .now) / WORDS) (a .words .now) (requestOf (a .edit .q)) (s .pre .1 .small) (entryOf (a .e)) (s .pre .2) (a .b) (s .pre .3) (c .before .e .given .0 .0) (ap entryOf (c .before .e .given .1))
+    form-flat-out (frameOf (a .edit .f) (a .words .now)) board-shape (a .words .now) (requestOf (a .edit .q)) (s .pre .1 .small) (entryOf (a .e)) (s .pre .2) (a .b) (s .pre .3) (c .before .e .given .0 .0) (ap entryOf (c .before .e .given .1))
 
 returns-2 : tie.Need-returns-2
 returns-2 c =
     let s = c .before .before .before .before in
     let a = s .args in
-    form-pieces-out (a .edit .f .paw) (a .edit .f .first .0) (length (a .words .now) / WORDS) (a .words .now) (requestOf (a .edit .q)) (s .pre .1 .small) (entryOf (a .e)) (s .pre .2) (a .b) (s .pre .3) (c .before .e2 .given .0 .0) (ap entryOf (c .before .e2 .given .1))
+    form-pieces-out (frameOf (a .edit .f) (a .words .now)) board-shape (a .words .now) (requestOf (a .edit .q)) (s .pre .1 .small) (entryOf (a .e)) (s .pre .2) (a .b) (s .pre .3) (c .before .e2 .given .0 .0) (ap entryOf (c .before .e2 .given .1))
     (rw (c .before .e2 .given .1) at (s .pre .2))
 
 returns-3 : tie.Need-returns-3

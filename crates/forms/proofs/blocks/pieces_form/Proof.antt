@@ -7,10 +7,11 @@ use native.Mathlib.Omega.{arith}
 use borrow.Author.Needs.{needs}
 use borrow.Author.Tests.{not-true, not-false}
 use lib.ListN.{length}
-use Rattle.table.specs.Board.{WORDS, PIECES, PIECE, INFO, frameOf}
-use Rattle.forms.proofs.FormLaws.{firstOf, isOne, form-pieces, form-table}
-use Rattle.forms.proofs.Fields.{horner, every-down, every-fail, pack4-fits}
-use Rattle.forms.proofs.EntryLaws.{after-small}
+use Rattle.table.specs.Board.{PIECES, PIECE, INFO, frameOf}
+use Rattle.forms.proofs.BoardShape.{board-shape}
+use Rattle.shapes.proofs.FormLaws.{firstOf, isOne, form-pieces, form-table}
+use Rattle.shapes.proofs.Fields.{horner, every-down, every-fail, pack-fits}
+use Rattle.shapes.proofs.EntryLaws.{after-small}
 use Rattle.model.specs.Forms.{allAre, wantPieces}
 use Rattle.model.specs.Numbers.{pack, every}
 use Rattle.types.specs.Views.{entryOf, requestOf}
@@ -48,9 +49,9 @@ next-fits c =
     let a = l .before .before .args in
     let pre = l .before .before .pre in
     subst (λ (k : ℕ). k < INFO) (sym (next-info c))
-    (pack4-fits (firstOf (frameOf (a .edit .f) (a .words .now)) (a .words .now) (requestOf (a .edit .q)) (entryOf (a .e)) (a .b))
-    (λ k. after-small (a .edit .f .paw) (a .edit .f .first .0) (length (a .words .now) / WORDS) (a .words .now) (requestOf (a .edit .q)) (pre .1 .small) (entryOf (a .e)) (pre .2) (a .b * 8192 + k * PIECE))
-    (l .loop .j + 1) (PIECES - (l .loop .j + 1)) (omega arith))
+    (pack-fits 4 (firstOf (frameOf (a .edit .f) (a .words .now)) (a .words .now) (requestOf (a .edit .q)) (entryOf (a .e)) (a .b))
+    (λ k. after-small (frameOf (a .edit .f) (a .words .now)) board-shape (a .words .now) (requestOf (a .edit .q)) (pre .1 .small) (entryOf (a .e)) (pre .2) (a .b * 8192 + k * PIECE))
+    PIECES (l .loop .j + 1) (PIECES - (l .loop .j + 1)) (omega arith))
 
 loop-holds : tie.Need-loop-holds Inv-loop μ-loop
 unfolding pack every
@@ -66,7 +67,7 @@ returns : tie.Need-returns Inv-loop μ-loop
 returns c =
     let l = c .before .before .before .before in
     let a = l .before .before .args in
-    form-table (a .edit .f .paw) (a .edit .f .first .0) (length (a .words .now) / WORDS) (a .words .now) (requestOf (a .edit .q)) (entryOf (a .e)) (a .b)
+    form-table (frameOf (a .edit .f) (a .words .now)) (a .words .now) (requestOf (a .edit .q)) (entryOf (a .e)) (a .b)
     (every-fail (isOne (frameOf (a .edit .f) (a .words .now)) (a .words .now) (requestOf (a .edit .q)) (entryOf (a .e)) (a .b)) PIECES ((PIECES - 1) - l .loop .j) (omega arith)
     (sym (piece-one (c .before .before)) ∙ not-true _ (c .if1 .taken)))
 
@@ -100,7 +101,7 @@ returns-2 c =
     let g : ℕ → ℕ = firstOf (frameOf (a .edit .f) (a .words .now)) (a .words .now) (requestOf (a .edit .q)) (entryOf (a .e)) (a .b) in
     let t : ℕ → Bool = isOne (frameOf (a .edit .f) (a .words .now)) (a .words .now) (requestOf (a .edit .q)) (entryOf (a .e)) (a .b) in
     ap wantPieces (l .loop .inv .1 ∙ ap (λ (k : ℕ). pack 4 g k (PIECES - k)) z)
-    ∙ form-pieces (a .edit .f .paw) (a .edit .f .first .0) (length (a .words .now) / WORDS) (a .words .now) (requestOf (a .edit .q)) (entryOf (a .e)) (a .b)
+    ∙ form-pieces (frameOf (a .edit .f) (a .words .now)) (a .words .now) (requestOf (a .edit .q)) (entryOf (a .e)) (a .b)
     (ap (λ (k : ℕ). every t k (PIECES - k)) (sym z) ∙ l .loop .inv .2)
 
 pub pieces-form-spec : {M : Type 1} → statement M

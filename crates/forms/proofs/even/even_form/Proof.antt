@@ -4,10 +4,11 @@ use Prim.Native.Nat.{ℕ, _+_, _-_, _*_, _/_}
 use native.Mathlib.Omega.{arith}
 use mathlib.Core.Bool.{Bool}
 use lib.ListN.{length}
-use Rattle.table.specs.Board.{board, WORDS, PIECES, PIECE, EACHPIECE}
+use Rattle.table.specs.Board.{board, PIECES, PIECE, EACHPIECE, frameOf}
 use Rattle.types.specs.Range.{Cut}
-use Rattle.forms.proofs.EvenLaws.{mixed-first, mixed-past, even-spliced}
-use Rattle.forms.proofs.SpliceLaws.{splice-bits}
+use Rattle.forms.proofs.BoardShape.{board-shape}
+use Rattle.shapes.proofs.EvenLaws.{mixed-first, mixed-past, even-spliced}
+use Rattle.shapes.proofs.SpliceLaws.{splice-bits}
 use Rattle.shapes.specs.Blocks.{Mixes}
 use Rattle.laws.proofs.Splices.{spliced}
 use Rattle.model.specs.Forms.{wantPieces}
@@ -40,7 +41,7 @@ returns : tie.Need-returns
 returns c =
     let s = c .before .before .before .before .before in
     let a = s .args in
-    mixed-first (a .edit .f .paw) (a .edit .f .first .0) (length (a .words .now) / WORDS) (a .words .now) (requestOf (a .edit .q)) (s .pre .1 .small) (entryOf (a .e)) (s .pre .2) (a .b) (a .info) (s .pre .3) (s .pre .4)
+    mixed-first (frameOf (a .edit .f) (a .words .now)) board-shape (a .words .now) (requestOf (a .edit .q)) (s .pre .1 .small) (entryOf (a .e)) (s .pre .2) (a .b) (a .info) (s .pre .3) (s .pre .4)
     (not-empty s)
     (mixing s _ _ _ _ (first-up s) (c .if1 .taken) (c .before .mixes .ensures))
 
@@ -51,7 +52,7 @@ returns-2 : tie.Need-returns-2
 returns-2 c =
     let s = c .before .before .before .before .before .before .before in
     let a = s .args in
-    mixed-past (a .edit .f .paw) (a .edit .f .first .0) (length (a .words .now) / WORDS) (a .words .now) (requestOf (a .edit .q)) (s .pre .1 .small) (entryOf (a .e)) (s .pre .2) (a .b) (a .info) (s .pre .3) (s .pre .4)
+    mixed-past (frameOf (a .edit .f) (a .words .now)) board-shape (a .words .now) (requestOf (a .edit .q)) (s .pre .1 .small) (entryOf (a .e)) (s .pre .2) (a .b) (a .info) (s .pre .3) (s .pre .4)
     (not-empty s)
     (mixing s _ _ _ _ (past-up s) (c .if2 .taken) (c .before .mixes2 .ensures))
 
@@ -101,7 +102,7 @@ returns-3 c =
     (c .splice2 .ensures
     ∙ ap (λ (w : ℕ). spliced 2 (2 * hi) w (a .info)) (c .before .splice .ensures ∙ splice-bits 2 lo (a .info) want)
     ∙ splice-bits 2 hi (spliced 4 lo (a .info) want) (a .info))
-    ∙ even-spliced (a .edit .f .paw) (a .edit .f .first .0) (length (a .words .now) / WORDS) (a .words .now) (requestOf (a .edit .q)) (s .pre .1 .small) (entryOf (a .e)) (s .pre .2) (a .b) (a .info) (s .pre .3) (s .pre .4)
+    ∙ even-spliced (frameOf (a .edit .f) (a .words .now)) board-shape (a .words .now) (requestOf (a .edit .q)) (s .pre .1 .small) (entryOf (a .e)) (s .pre .2) (a .b) (a .info) (s .pre .3) (s .pre .4)
     (mixing s _ _ _ _ (first-up s) (o .before .before .if1 .left) (o .before .before .before .mixes .ensures))
     (mixing s _ _ _ _ (past-up s) (o .if2 .left) (o .before .mixes2 .ensures))
     lo hi

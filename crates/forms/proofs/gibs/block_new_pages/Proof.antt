@@ -2,8 +2,9 @@
 use mathlib.Core.Path.{_≡_, ap}
 use Prim.Native.Nat.{_/_}
 use lib.ListN.{length}
-use Rattle.table.specs.Board.{WORDS, frameOf}
-use Rattle.forms.proofs.FormLaws.{form-inside}
+use Rattle.table.specs.Board.{frameOf}
+use Rattle.forms.proofs.BoardShape.{board-shape}
+use Rattle.shapes.proofs.FormLaws.{form-inside}
 use Rattle.types.specs.Views.{requestOf}
 use Rattle.model.specs.Forms.{Form}
 use Rattle.model.specs.Numbers.{if_then_else_}
@@ -43,7 +44,7 @@ returns c =
     let F = frameOf (a .edit .f) (a .words .now) in
     let e = entryAt F (a .words .now) (a .edit .root .0) (a .b) in
     ap (λ (x : Form). if needsPage x e then 1 else 0)
-    (form-inside (a .edit .f .paw) (a .edit .f .first .0) (length (a .words .now) / WORDS) (a .words .now) (requestOf (a .edit .q)) (s .pre .2 .small) e (s .pre .0 .good (a .b) (s .pre .1)) (a .b)
+    (form-inside (frameOf (a .edit .f) (a .words .now)) board-shape (a .words .now) (requestOf (a .edit .q)) (s .pre .2 .small) e (s .pre .0 .good (a .b) (s .pre .1)) (a .b)
     (rw (c .enum-told .given .1) at (l .lies .ensures)))
 
 returns-2 : tie.Need-returns-2

@@ -7,7 +7,9 @@ use borrow.Author.Needs.{needs}
 use borrow.Author.Tests.{not-true, not-false}
 use lib.ListN.{length}
 use Rattle.table.specs.Board.{frameOf}
-use Rattle.forms.proofs.GibLaws.{blockIs, gib-every, every-next, every-stop, every-none}
+use Rattle.shapes.specs.Blocks.{blockIs}
+use Rattle.shapes.proofs.GibLaws.{gib-every}
+use Rattle.shapes.proofs.Fields.{every-next, every-stop, every-none}
 use Rattle.model.specs.Entry.{Entry}
 use Rattle.model.specs.Forms.{allAre, gibIsOne}
 use Rattle.model.specs.Numbers.{every}

@@ -4,8 +4,8 @@ use Prim.Native.Nat.{ℕ, _+_, _*_, _/_, _<_}
 use native.Mathlib.Omega.{arith}
 use lib.ListN.{length}
 use borrow.Author.Needs.{needs}
-use Rattle.table.specs.Board.{WORDS}
-use Rattle.forms.proofs.GibLaws.{inside-first, inside-one}
+use Rattle.forms.proofs.BoardShape.{board-shape}
+use Rattle.shapes.proofs.GibLaws.{inside-first, inside-one}
 use Rattle.types.specs.Views.{entryOf, requestOf}
 use Rattle.shapes.specs.Rooted.{Good}
 use Rattle.forms.proofs.gibs.gib_of.Statement.{statement}
@@ -37,8 +37,8 @@ returns c =
     let a = c .before .before .before .before .args in
     let pre = c .before .before .before .before .pre in
     let h = rw (c .enum-told .given .1) at (c .before .before .lies .ensures) in (
-      inside-first (a .edit .f .paw) (a .edit .f .first .0) (length (a .words .now) / WORDS) (a .words .now) (requestOf (a .edit .q)) (pre .2 .small) (a .edit .root .0) (pre .0) (a .g) (pre .1) h,
-      inside-one (a .edit .f .paw) (a .edit .f .first .0) (length (a .words .now) / WORDS) (a .words .now) (requestOf (a .edit .q)) (pre .2 .small) (a .edit .root .0) (pre .0) (a .g) (pre .1) h,
+      inside-first board-shape (pre .0) (requestOf (a .edit .q)) (pre .2 .small) (a .g) (pre .1) h,
+      inside-one board-shape (pre .0) (requestOf (a .edit .q)) (pre .2 .small) (a .g) (pre .1) h,
       pre .2 .small,
     )
 

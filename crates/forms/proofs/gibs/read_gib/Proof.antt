@@ -3,8 +3,8 @@ use mathlib.Core.Path.{_≡_, sym, ap, _∙_, subst}
 use Prim.Native.Nat.{_+_, _*_, _/_}
 use native.Mathlib.Omega.{arith}
 use lib.ListN.{length}
-use Rattle.table.specs.Board.{WORDS, PIECE, frameOf}
-use Rattle.forms.proofs.GibLaws.{first-of, mixed-gib}
+use Rattle.table.specs.Board.{PIECE, frameOf}
+use Rattle.shapes.proofs.GibLaws.{first-of, mixed-gib}
 use Rattle.types.specs.Range.{Meets}
 use Rattle.model.specs.Entry.{Entry}
 use Rattle.model.specs.Forms.{afterIn, gibFirst}
@@ -49,7 +49,7 @@ returns c =
     let s = k .before .before .before in
     let a = s .args in (
       first-is k,
-      mixed-gib (a .edit .f .paw) (a .edit .f .first .0) (length (a .words .now) / WORDS) (a .words .now) (requestOf (a .edit .q)) (s .pre .2 .small) (a .edit .root .0) (a .g) (k .piece-first .result)
+      mixed-gib (frameOf (a .edit .f) (a .words .now)) (a .words .now) (requestOf (a .edit .q)) (a .edit .root .0) (a .g) (k .piece-first .result)
           (c .before .before .if1 .taken) (subst (Meets (requestOf (a .edit .q)) (a .g * 32 * 8192) 262144) (c .if2 .taken) (c .before .meets .ensures)),
       k .piece-first .ensures .1,
     )

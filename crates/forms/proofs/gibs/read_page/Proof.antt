@@ -4,7 +4,7 @@ use mathlib.Core.Bool.{false}
 use native.Mathlib.Omega.{arith}
 use borrow.Author.Tests.{not-true}
 use Rattle.table.specs.Board.{frameOf}
-use Rattle.forms.proofs.CountLaws.{table-none}
+use Rattle.shapes.proofs.CountLaws.{table-none}
 use Rattle.model.specs.Entry.{Entry}
 use Rattle.model.specs.Forms as model
 use Rattle.model.specs.Stores.{needsPage}

@@ -1,8 +1,9 @@
 -- `forms::pieces::block_is` meets its contract: inside the range, outside it, and across an end.
 use Prim.Native.Nat.{_*_, _/_}
-use lib.ListN.{length}
-use Rattle.table.specs.Board.{WORDS}
-use Rattle.forms.proofs.EntryLaws.{run-inside}
+use native.Mathlib.Omega.{arith}
+use Rattle.table.specs.Board.{frameOf}
+use Rattle.forms.proofs.BoardShape.{board-shape}
+use Rattle.shapes.proofs.EntryLaws.{run-inside}
 use Rattle.types.specs.Views.{entryOf, requestOf}
 use borrow.Author.Needs.{needs}
 use Rattle.forms.proofs.pieces.block_is.Statement.{statement}
@@ -35,7 +36,7 @@ returns : tie.Need-returns
 returns c =
     let s = c .before .before .before .before .before in
     let a = s .args in
-    run-inside (a .edit .f .paw) (a .edit .f .first .0) (length (a .words .now) / WORDS) (a .words .now) (requestOf (a .edit .q)) (s .pre .2 .small) (entryOf (a .e)) (s .pre .3) (a .p) 8191 (a .b * 8192)
+    run-inside (frameOf (a .edit .f) (a .words .now)) board-shape (a .words .now) (requestOf (a .edit .q)) (s .pre .2 .small) (entryOf (a .e)) (s .pre .3) (a .p) 8192 (a .b * 8192) (omega arith)
     (rw (c .before .enum-told .given .1) at (c .before .before .before .lies .ensures))
 
 returns-2 : tie.Need-returns-2

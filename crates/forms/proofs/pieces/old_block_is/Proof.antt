@@ -4,9 +4,10 @@ use mathlib.Core.Path.{_≡_}
 use Prim.Native.Nat.{_*_, _/_, _<_}
 use native.Mathlib.Omega.{arith}
 use lib.ListN.{length}
-use Rattle.table.specs.Board.{WORDS, INFO}
-use Rattle.forms.proofs.EntryLaws.{run-outside}
-use Rattle.forms.proofs.EvenLaws.{even-is, even-pieces}
+use Rattle.table.specs.Board.{INFO, frameOf}
+use Rattle.forms.proofs.BoardShape.{board-shape}
+use Rattle.shapes.proofs.EntryLaws.{run-outside}
+use Rattle.shapes.proofs.EvenLaws.{even-is, even-pieces}
 use Rattle.model.specs.Forms.{permOf}
 use Rattle.model.specs.Walk.{found}
 use Rattle.types.specs.Views.{entryOf, requestOf}
@@ -40,7 +41,7 @@ unfolding found permOf
 returns c =
     let s = c .before .before .before .before in
     let a = s .args in
-    run-outside (a .edit .f .paw) (a .edit .f .first .0) (length (a .words .now) / WORDS) (a .words .now) (requestOf (a .edit .q)) (s .pre .2 .small) (entryOf (a .e)) (s .pre .3) (a .p) (c .before .e .given .0 .0) 8191 (a .b * 8192)
+    run-outside (frameOf (a .edit .f) (a .words .now)) board-shape (a .words .now) (requestOf (a .edit .q)) (s .pre .2 .small) (entryOf (a .e)) (s .pre .3) (a .p) (c .before .e .given .0 .0) 8192 (a .b * 8192) (omega arith)
     (s .pre .4) (λ k lo hi. rw (c .before .e .given .1))
 
 returns-2 : tie.Need-returns-2
@@ -50,8 +51,8 @@ returns-2 c =
     let x = c .before .e2 .given .0 .0 in
     let h : x < INFO = rw (c .before .e2 .given .1) at (s .pre .3) in
     rw (c .before .e2 .given .1)
-    (even-is (a .edit .f .paw) (a .edit .f .first .0) (length (a .words .now) / WORDS) (a .words .now) (requestOf (a .edit .q)) (s .pre .2 .small) (pieces x) h (a .b) x h
-    (even-pieces (a .edit .f .paw) (a .edit .f .first .0) (length (a .words .now) / WORDS) (a .words .now) x (a .b))
+    (even-is (frameOf (a .edit .f) (a .words .now)) board-shape (a .words .now) (requestOf (a .edit .q)) (s .pre .2 .small) (pieces x) h (a .b) x h
+    (even-pieces (frameOf (a .edit .f) (a .words .now)) board-shape (a .words .now) x (a .b))
     (a .p) (s .pre .1) (s .pre .4))
 
 returns-3 : tie.Need-returns-3

@@ -3,8 +3,9 @@ use mathlib.Core.Path.{_≡_, refl, sym, ap, _∙_, subst}
 use Prim.Native.Nat.{ℕ, _+_, _*_, _/_, _%_, _<_, _^_}
 use native.Mathlib.Omega.{arith}
 use lib.ListN.{length}
-use Rattle.table.specs.Board.{WORDS, FIELDS, PIECE, ROW, ENTRY, frameOf}
-use Rattle.forms.proofs.EntryLaws.{first-field, after-small, word-outside}
+use Rattle.table.specs.Board.{FIELDS, PIECE, ROW, ENTRY, frameOf}
+use Rattle.forms.proofs.BoardShape.{board-shape}
+use Rattle.shapes.proofs.EntryLaws.{first-field, after-small, word-outside}
 use Rattle.model.specs.Forms.{afterIn}
 use Rattle.types.specs.Views.{entryOf, requestOf}
 use borrow.Author.Needs.{needs}
@@ -29,13 +30,13 @@ returns c = let a = c .before .before .before .args in
     = ap (λ (k : ℕ). k % 16)
     (c .wide .ensures .0
     ∙ c .before .old-word .ensures
-    ∙ word-outside (a .edit .f .paw) (a .edit .f .first .0) (length (a .words .now) / WORDS) (a .words .now) (requestOf (a .edit .q)) (pre .2 .small) (entryOf (a .e)) (pre .3) (a .b) (a .i * ROW) (omega arith)
+    ∙ word-outside (frameOf (a .edit .f) (a .words .now)) board-shape (a .words .now) (requestOf (a .edit .q)) (pre .2 .small) (entryOf (a .e)) (pre .3) (a .b) (a .i * ROW) (omega arith)
     (subst (λ (k : ℕ). k < ENTRY) (c .before .old-word .ensures) (omega arith)) (λ k lo hi. pre .4 k (omega arith) (omega arith)))
-    ∙ first-field (a .edit .f .paw) (a .edit .f .first .0) (length (a .words .now) / WORDS) (a .words .now) (requestOf (a .edit .q)) (pre .2 .small) (entryOf (a .e)) (pre .3) (a .b) (a .i * ROW)
+    ∙ first-field (frameOf (a .edit .f) (a .words .now)) board-shape (a .words .now) (requestOf (a .edit .q)) (pre .2 .small) (entryOf (a .e)) (pre .3) (a .b) (a .i * ROW)
     ∙ ap (afterIn (frameOf (a .edit .f) (a .words .now)) (a .words .now) (requestOf (a .edit .q)) (entryOf (a .e))) z in (
       e,
       subst (λ (k : ℕ). k < 4) (sym e)
-          (after-small (a .edit .f .paw) (a .edit .f .first .0) (length (a .words .now) / WORDS) (a .words .now) (requestOf (a .edit .q)) (pre .2 .small) (entryOf (a .e)) (pre .3) (a .b * 8192 + a .i * PIECE)),
+          (after-small (frameOf (a .edit .f) (a .words .now)) board-shape (a .words .now) (requestOf (a .edit .q)) (pre .2 .small) (entryOf (a .e)) (pre .3) (a .b * 8192 + a .i * PIECE)),
     )
 
 pub old-first-spec : {M : Type 1} → statement M

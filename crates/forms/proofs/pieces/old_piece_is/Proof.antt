@@ -5,10 +5,11 @@ use native.Mathlib.Omega.{arith}
 use lib.ListN.{length, getD}
 use lib.Dec.{eqb}
 use borrow.Author.Needs.{needs}
-use Rattle.table.specs.Board.{WORDS, PIECE, ROW, frameOf}
-use Rattle.forms.proofs.EntryLaws.{run-outside}
-use Rattle.forms.proofs.Fields.{eqb-swap, index-add}
-use Rattle.forms.proofs.FormLaws.{piece-words}
+use Rattle.table.specs.Board.{PIECE, ROW, frameOf}
+use Rattle.forms.proofs.BoardShape.{board-shape}
+use Rattle.shapes.proofs.EntryLaws.{run-outside}
+use Rattle.shapes.proofs.Fields.{eqb-swap, index-add}
+use Rattle.shapes.proofs.FormLaws.{piece-words}
 use Rattle.model.specs.Entry.{Entry}
 use Rattle.model.specs.Forms.{allAre, permOf}
 use Rattle.model.specs.Frame.{indexOf}
@@ -54,7 +55,7 @@ unfolding found permOf
 returns c =
     let a = c .before .before .before .before .args in
     let pre = c .before .before .before .before .pre in
-    run-outside (a .edit .f .paw) (a .edit .f .first .0) (length (a .words .now) / WORDS) (a .words .now) (requestOf (a .edit .q)) (pre .3 .small) (entryOf (a .e)) (pre .4) (a .p) (c .before .e .given .0 .0) (PIECE - 1) (a .b * 8192 + a .i * PIECE)
+    run-outside (frameOf (a .edit .f) (a .words .now)) board-shape (a .words .now) (requestOf (a .edit .q)) (pre .3 .small) (entryOf (a .e)) (pre .4) (a .p) (c .before .e .given .0 .0) PIECE (a .b * 8192 + a .i * PIECE) (omega arith)
     (pre .5) (λ k lo hi. rw (c .before .e .given .1))
 
 returns-2 : tie.Need-returns-2
@@ -63,7 +64,7 @@ returns-2 c =
     let a = c .before .before .before .before .before .args in
     let pre = c .before .before .before .before .before .pre in
     ap (λ (x : ℕ). eqb x (a .p)) (c .piece .ensures .0)
-    ∙ run-outside (a .edit .f .paw) (a .edit .f .first .0) (length (a .words .now) / WORDS) (a .words .now) (requestOf (a .edit .q)) (pre .3 .small) (entryOf (a .e)) (pre .4) (a .p) (digit 4 (c .before .before .e2 .given .0 .0) (a .i)) (PIECE - 1) (a .b * 8192 + a .i * PIECE)
+    ∙ run-outside (frameOf (a .edit .f) (a .words .now)) board-shape (a .words .now) (requestOf (a .edit .q)) (pre .3 .small) (entryOf (a .e)) (pre .4) (a .p) (digit 4 (c .before .before .e2 .given .0 .0) (a .i)) PIECE (a .b * 8192 + a .i * PIECE) (omega arith)
     (pre .5) (λ k lo hi. let z : k % 8192 / PIECE ≡ a .i = omega arith in rw (c .before .before .e2 .given .1) (ap (digit 4 (c .before .before .e2 .given .0 .0)) z))
 
 returns-3 : tie.Need-returns-3
@@ -76,7 +77,7 @@ returns-3 c =
     let at : c .before .before .page-at .result + a .i * ROW ≡ indexOf F t (a .i * ROW) = ap (λ (k : ℕ). k + a .i * ROW) (c .before .before .page-at .ensures .0) ∙ index-add F t (a .i * ROW) in
     c .same-words .ensures
     ∙ ap₂ (λ (w k : ℕ). every (λ j. eqb (getD (a .words .now) j 0) w) ROW k) (c .before .spread .ensures) at
-    ∙ piece-words (a .edit .f .paw) (a .edit .f .first .0) (length (a .words .now) / WORDS) (a .words .now) (requestOf (a .edit .q)) (s .pre .3 .small) t (rw told at (s .pre .4)) (a .b) (a .i) (a .p) (s .pre .2) (s .pre .1) (s .pre .5)
+    ∙ piece-words (frameOf (a .edit .f) (a .words .now)) board-shape (a .words .now) (requestOf (a .edit .q)) (s .pre .3 .small) t (rw told at (s .pre .4)) (a .b) (a .i) (a .p) (s .pre .2) (s .pre .1) (s .pre .5)
     (λ j u. omega (arith, c .before .before .before .before .before .before .shared-slice-known .given (indexOf F t (a .i * ROW) + j)))
     ∙ ap (λ (e : Entry). allAre F (a .words .now) (requestOf (a .edit .q)) e (a .p) PIECE (a .b * 8192 + a .i * PIECE)) (sym (ap entryOf told))
 
@@ -86,7 +87,7 @@ returns-4 c =
     let a = c .before .before .before .args in
     let pre = c .before .before .before .pre in
     eqb-swap (a .p) 0
-    ∙ run-outside (a .edit .f .paw) (a .edit .f .first .0) (length (a .words .now) / WORDS) (a .words .now) (requestOf (a .edit .q)) (pre .3 .small) (entryOf (a .e)) (pre .4) (a .p) 0 (PIECE - 1) (a .b * 8192 + a .i * PIECE)
+    ∙ run-outside (frameOf (a .edit .f) (a .words .now)) board-shape (a .words .now) (requestOf (a .edit .q)) (pre .3 .small) (entryOf (a .e)) (pre .4) (a .p) 0 PIECE (a .b * 8192 + a .i * PIECE) (omega arith)
     (pre .5) (λ k lo hi. rw (c .enum-told .given .1))
 
 pub old-piece-is-spec : {M : Type 1} → statement M

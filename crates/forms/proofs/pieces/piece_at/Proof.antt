@@ -4,8 +4,9 @@ use Prim.Native.Nat.{ℕ, _+_, _*_, _/_, _<_, _-_}
 use native.Mathlib.Omega.{arith}
 use lib.ListN.{length}
 use borrow.Author.Tests.{eq-eqb}
-use Rattle.table.specs.Board.{WORDS, PIECE}
-use Rattle.forms.proofs.EntryLaws.{run-inside}
+use Rattle.table.specs.Board.{PIECE, frameOf}
+use Rattle.forms.proofs.BoardShape.{board-shape}
+use Rattle.shapes.proofs.EntryLaws.{run-inside}
 use Rattle.model.specs.Forms.{afterIn}
 use Rattle.types.specs.Views.{entryOf, requestOf}
 use borrow.Author.Needs.{needs}
@@ -47,7 +48,7 @@ returns c = let s = c .before .before .before .before in
     let h = rw (c .enum-told .given .1) at (c .before .before .lies .ensures) in (
       rw (h (a .b * 8192 + a .i * PIECE) (omega arith) (omega arith)),
       sym (eq-eqb (a .edit .q .permission) (a .edit .q .permission) refl)
-          ∙ run-inside (a .edit .f .paw) (a .edit .f .first .0) (length (a .words .now) / WORDS) (a .words .now) (requestOf (a .edit .q)) (s .pre .2 .small) (entryOf (a .e)) (s .pre .3) (a .edit .q .permission) (PIECE - 1) (a .b * 8192 + a .i * PIECE) h,
+          ∙ run-inside (frameOf (a .edit .f) (a .words .now)) board-shape (a .words .now) (requestOf (a .edit .q)) (s .pre .2 .small) (entryOf (a .e)) (s .pre .3) (a .edit .q .permission) PIECE (a .b * 8192 + a .i * PIECE) (omega arith) h,
       s .pre .2 .small,
     )
 

@@ -4,8 +4,9 @@ use Prim.Native.Nat.{ℕ, _+_, _-_, _*_, _/_, _%_, _≤_, _<_}
 use native.Mathlib.Omega.{arith}
 use lib.ListN.{length}
 use borrow.Author.Needs.{needs}
-use Rattle.table.specs.Board.{WORDS, FIELDS, PIECE, ROW, frameOf}
-use Rattle.forms.proofs.EntryLaws.{first-field, after-small}
+use Rattle.table.specs.Board.{FIELDS, PIECE, ROW, frameOf}
+use Rattle.forms.proofs.BoardShape.{board-shape}
+use Rattle.shapes.proofs.EntryLaws.{first-field, after-small}
 use Rattle.model.specs.Forms.{afterIn}
 use Rattle.types.specs.Views.{entryOf, requestOf}
 use Rattle.forms.proofs.pieces.piece_first.Statement.{statement}
@@ -27,11 +28,11 @@ returns c =
     let z : a .b * 8192 + a .i * ROW * FIELDS ≡ a .b * 8192 + a .i * PIECE = omega arith in
     let e : c .wide .result % 16 ≡ afterIn (frameOf (a .edit .f) (a .words .now)) (a .words .now) (requestOf (a .edit .q)) (entryOf (a .e)) (a .b * 8192 + a .i * PIECE)
     = ap (λ (k : ℕ). k % 16) (c .wide .ensures .0 ∙ c .before .after-word .ensures)
-    ∙ first-field (a .edit .f .paw) (a .edit .f .first .0) (length (a .words .now) / WORDS) (a .words .now) (requestOf (a .edit .q)) (pre .2 .small) (entryOf (a .e)) (pre .3) (a .b) (a .i * ROW)
+    ∙ first-field (frameOf (a .edit .f) (a .words .now)) board-shape (a .words .now) (requestOf (a .edit .q)) (pre .2 .small) (entryOf (a .e)) (pre .3) (a .b) (a .i * ROW)
     ∙ ap (afterIn (frameOf (a .edit .f) (a .words .now)) (a .words .now) (requestOf (a .edit .q)) (entryOf (a .e))) z in (
       e,
       subst (λ (k : ℕ). k < 4) (sym e)
-          (after-small (a .edit .f .paw) (a .edit .f .first .0) (length (a .words .now) / WORDS) (a .words .now) (requestOf (a .edit .q)) (pre .2 .small) (entryOf (a .e)) (pre .3) (a .b * 8192 + a .i * PIECE)),
+          (after-small (frameOf (a .edit .f) (a .words .now)) board-shape (a .words .now) (requestOf (a .edit .q)) (pre .2 .small) (entryOf (a .e)) (pre .3) (a .b * 8192 + a .i * PIECE)),
     )
 
 pub piece-first-spec : {M : Type 1} → statement M

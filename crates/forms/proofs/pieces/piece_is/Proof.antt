@@ -5,8 +5,9 @@ use native.Mathlib.Omega.{arith}
 use lib.ListN.{length}
 use lib.Dec.{eqb}
 use borrow.Author.Needs.{needs}
-use Rattle.table.specs.Board.{WORDS, FIELDS, PIECE, ROW, frameOf}
-use Rattle.forms.proofs.EntryLaws.{run-inside}
+use Rattle.table.specs.Board.{FIELDS, PIECE, ROW, frameOf}
+use Rattle.forms.proofs.BoardShape.{board-shape}
+use Rattle.shapes.proofs.EntryLaws.{run-inside}
 use Rattle.model.specs.Forms.{allAre}
 use Rattle.types.specs.Views.{entryOf, requestOf}
 use Rattle.forms.proofs.pieces.piece_is.Statement.{statement}
@@ -48,7 +49,7 @@ returns : tie.Need-returns
 returns c =
     let a = c .before .before .before .before .before .args in
     let pre = c .before .before .before .before .before .pre in
-    run-inside (a .edit .f .paw) (a .edit .f .first .0) (length (a .words .now) / WORDS) (a .words .now) (requestOf (a .edit .q)) (pre .3 .small) (entryOf (a .e)) (pre .4) (a .p) (PIECE - 1) (a .b * 8192 + a .i * PIECE)
+    run-inside (frameOf (a .edit .f) (a .words .now)) board-shape (a .words .now) (requestOf (a .edit .q)) (pre .3 .small) (entryOf (a .e)) (pre .4) (a .p) PIECE (a .b * 8192 + a .i * PIECE) (omega arith)
     (rw (c .before .enum-told .given .1) at (c .before .before .before .lies .ensures))
 
 returns-2 : tie.Need-returns-2

@@ -6,8 +6,9 @@ use native.Mathlib.Omega.{arith}
 use borrow.Author.Needs.{needs}
 use borrow.Author.Tests.{not-true, not-false}
 use lib.ListN.{length}
-use Rattle.table.specs.Board.{WORDS, PIECES, PIECE, frameOf}
-use Rattle.forms.proofs.EntryLaws.{pieces-next, pieces-stop, all-none}
+use Rattle.table.specs.Board.{PIECES, PIECE, frameOf}
+use Rattle.forms.proofs.BoardShape.{board-shape}
+use Rattle.shapes.proofs.EntryLaws.{pieces-next, pieces-stop, all-none}
 use Rattle.model.specs.Forms.{allAre}
 use Rattle.types.specs.Views.{entryOf, requestOf}
 use Rattle.forms.proofs.pieces.pieces_are.Statement.{statement}
@@ -36,7 +37,7 @@ returns c =
     let a = l .before .before .args in
     let pre = l .before .before .pre in
     sym (l .loop .inv .1
-    ∙ pieces-stop (a .edit .f .paw) (a .edit .f .first .0) (length (a .words .now) / WORDS) (a .words .now) (requestOf (a .edit .q)) (pre .2 .small) (entryOf (a .e)) (pre .3) (a .b) (l .loop .i) (a .p) (omega arith)
+    ∙ pieces-stop (frameOf (a .edit .f) (a .words .now)) board-shape (a .words .now) (requestOf (a .edit .q)) (pre .2 .small) (entryOf (a .e)) (pre .3) (a .b) (l .loop .i) (a .p) (omega arith)
     (sym (c .before .piece-is .ensures) ∙ not-true _ (c .if1 .taken)))
 
 add-i : tie.Need-add-i Inv-loop μ-loop
@@ -52,7 +53,7 @@ loop-again c =
     let pre = l .before .before .pre in (
       omega arith,
       l .loop .inv .1
-          ∙ pieces-next (a .edit .f .paw) (a .edit .f .first .0) (length (a .words .now) / WORDS) (a .words .now) (requestOf (a .edit .q)) (pre .2 .small) (entryOf (a .e)) (pre .3) (a .b) (l .loop .i) (a .p) (omega arith)
+          ∙ pieces-next (frameOf (a .edit .f) (a .words .now)) board-shape (a .words .now) (requestOf (a .edit .q)) (pre .2 .small) (entryOf (a .e)) (pre .3) (a .b) (l .loop .i) (a .p) (omega arith)
           (sym (c .before .piece-is .ensures) ∙ not-false _ (c .if1 .left)),
     )
 
@@ -63,7 +64,7 @@ returns-2 c =
     let pre = l .before .before .pre in
     let z : 8192 - l .loop .i * PIECE ≡ 0 = omega arith in
     sym (l .loop .inv .1
-    ∙ all-none (a .edit .f .paw) (a .edit .f .first .0) (length (a .words .now) / WORDS) (a .words .now) (requestOf (a .edit .q)) (pre .2 .small) (entryOf (a .e)) (pre .3) (a .p) _ (a .b * 8192 + l .loop .i * PIECE) z)
+    ∙ all-none (frameOf (a .edit .f) (a .words .now)) board-shape (a .words .now) (requestOf (a .edit .q)) (pre .2 .small) (entryOf (a .e)) (pre .3) (a .p) _ (a .b * 8192 + l .loop .i * PIECE) z)
 
 pub pieces-are-spec : {M : Type 1} → statement M
 pieces-are-spec =

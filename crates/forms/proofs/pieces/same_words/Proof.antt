@@ -8,7 +8,7 @@ use lib.Dec.{eqb}
 use lib.ListN.{length, getD}
 use borrow.Author.Tests.{eq-eqb, ne-eqb}
 use Rattle.table.specs.Board.{ROW}
-use Rattle.forms.proofs.GibLaws.{every-next, every-stop, every-none}
+use Rattle.shapes.proofs.Fields.{every-next, every-stop, every-none}
 use Rattle.model.specs.Numbers.{every}
 use Rattle.forms.proofs.pieces.same_words.Statement.{statement}
 use Rattle.forms.proofs.pieces.same_words.Tie as tie

@@ -8,8 +8,9 @@ use borrow.Author.Needs.{needs}
 use borrow.Author.Tests.{eq-eqb, ne-eqb}
 use lib.Dec.{eqb}
 use lib.ListN.{length}
-use Rattle.table.specs.Board.{board, WORDS, FIELDS, PIECE, ROW, frameOf}
-use Rattle.forms.proofs.EntryLaws.{word-is, words-next, words-stop, all-none}
+use Rattle.table.specs.Board.{board, FIELDS, PIECE, ROW, frameOf}
+use Rattle.forms.proofs.BoardShape.{board-shape}
+use Rattle.shapes.proofs.EntryLaws.{word-is, words-next, words-stop, all-none}
 use Rattle.shapes.specs.Words.{spreadOf}
 use Rattle.model.specs.Forms.{allAre}
 use Rattle.types.specs.Views.{entryOf, requestOf}
@@ -33,7 +34,7 @@ word-here c =
     let a = l .before .before .before .args in
     let pre = l .before .before .before .pre in
     ap₂ (λ (x y : ℕ). eqb x y) (c .after-word .ensures) (l .before .spread .ensures)
-    ∙ word-is (a .edit .f .paw) (a .edit .f .first .0) (length (a .words .now) / WORDS) (a .words .now) (requestOf (a .edit .q)) (pre .3 .small) (entryOf (a .e)) (pre .4) (a .b) (a .i + l .loop .j) (a .p) (pre .2)
+    ∙ word-is (frameOf (a .edit .f) (a .words .now)) board-shape (a .words .now) (requestOf (a .edit .q)) (pre .3 .small) (entryOf (a .e)) (pre .4) (a .b) (a .i + l .loop .j) (a .p) (pre .2)
 
 spread-requires : tie.Need-spread-requires Inv-loop μ-loop
 spread-requires c κs = search needs
@@ -56,7 +57,7 @@ returns c =
     let a = l .before .before .before .args in
     let pre = l .before .before .before .pre in
     sym (l .loop .inv .2
-    ∙ words-stop (a .edit .f .paw) (a .edit .f .first .0) (length (a .words .now) / WORDS) (a .words .now) (requestOf (a .edit .q)) (pre .3 .small) (entryOf (a .e)) (pre .4) (a .b) (a .i) (l .loop .j) (a .p) (omega arith)
+    ∙ words-stop (frameOf (a .edit .f) (a .words .now)) board-shape (a .words .now) (requestOf (a .edit .q)) (pre .3 .small) (entryOf (a .e)) (pre .4) (a .b) (a .i) (l .loop .j) (a .p) (omega arith)
     (sym (word-here (c .before)) ∙ ne-eqb _ _ (c .if1 .taken)))
 
 add-j : tie.Need-add-j Inv-loop μ-loop
@@ -73,7 +74,7 @@ loop-again c =
       omega arith,
       l .before .spread .ensures,
       l .loop .inv .2
-          ∙ words-next (a .edit .f .paw) (a .edit .f .first .0) (length (a .words .now) / WORDS) (a .words .now) (requestOf (a .edit .q)) (pre .3 .small) (entryOf (a .e)) (pre .4) (a .b) (a .i) (l .loop .j) (a .p) (omega arith)
+          ∙ words-next (frameOf (a .edit .f) (a .words .now)) board-shape (a .words .now) (requestOf (a .edit .q)) (pre .3 .small) (entryOf (a .e)) (pre .4) (a .b) (a .i) (l .loop .j) (a .p) (omega arith)
           (sym (word-here (c .before)) ∙ eq-eqb _ _ (c .if1 .left)),
     )
 
@@ -84,7 +85,7 @@ returns-2 c =
     let pre = l .before .before .before .pre in
     let z : PIECE - l .loop .j * FIELDS ≡ 0 = omega arith in
     sym (l .loop .inv .2
-    ∙ all-none (a .edit .f .paw) (a .edit .f .first .0) (length (a .words .now) / WORDS) (a .words .now) (requestOf (a .edit .q)) (pre .3 .small) (entryOf (a .e)) (pre .4) (a .p) _ (a .b * 8192 + (a .i + l .loop .j) * FIELDS) z)
+    ∙ all-none (frameOf (a .edit .f) (a .words .now)) board-shape (a .words .now) (requestOf (a .edit .q)) (pre .3 .small) (entryOf (a .e)) (pre .4) (a .p) _ (a .b * 8192 + (a .i + l .loop .j) * FIELDS) z)
 
 pub words-are-spec : {M : Type 1} → statement M
 words-are-spec =

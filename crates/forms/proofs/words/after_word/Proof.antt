@@ -4,8 +4,9 @@ use Prim.Native.Nat.{ℕ, _+_, _*_, _/_, _<_, _^_}
 use lib.ListN.{length}
 use native.Mathlib.Omega.{arith}
 use borrow.Author.Needs.{needs}
-use Rattle.table.specs.Board.{WORDS, FIELDS, ENTRY}
-use Rattle.forms.proofs.EntryLaws.{word-inside, word-outside, word-across}
+use Rattle.table.specs.Board.{FIELDS, ENTRY, frameOf}
+use Rattle.forms.proofs.BoardShape.{board-shape}
+use Rattle.shapes.proofs.EntryLaws.{word-inside, word-outside, word-across}
 use Rattle.shapes.specs.Words.{mixedAt}
 use Rattle.model.specs.Numbers.{pack}
 use Rattle.types.specs.Views.{entryOf, requestOf}
@@ -50,7 +51,7 @@ returns c =
     let a = c .before .before .before .before .before .args in
     let pre = c .before .before .before .before .before .pre in
     c .spread .ensures
-    ∙ word-inside (a .edit .f .paw) (a .edit .f .first .0) (length (a .words .now) / WORDS) (a .words .now) (requestOf (a .edit .q)) (pre .2 .small) (entryOf (a .e)) (pre .3) (a .b) (a .i)
+    ∙ word-inside (frameOf (a .edit .f) (a .words .now)) board-shape (a .words .now) (requestOf (a .edit .q)) (pre .2 .small) (entryOf (a .e)) (pre .3) (a .b) (a .i)
     (rw (c .before .enum-told .given .1) at (c .before .before .before .lies .ensures))
 
 returns-2 : tie.Need-returns-2
@@ -58,7 +59,7 @@ returns-2 c =
     let a = c .before .before .before .before .before .args in
     let pre = c .before .before .before .before .before .pre in
     c .old-word .ensures
-    ∙ word-outside (a .edit .f .paw) (a .edit .f .first .0) (length (a .words .now) / WORDS) (a .words .now) (requestOf (a .edit .q)) (pre .2 .small) (entryOf (a .e)) (pre .3) (a .b) (a .i) (pre .1)
+    ∙ word-outside (frameOf (a .edit .f) (a .words .now)) board-shape (a .words .now) (requestOf (a .edit .q)) (pre .2 .small) (entryOf (a .e)) (pre .3) (a .b) (a .i) (pre .1)
     (subst (λ (k : ℕ). k < ENTRY) (c .old-word .ensures) (omega arith))
     (rw (c .before .enum-told2 .given .1) at (c .before .before .before .lies .ensures))
 
@@ -69,7 +70,7 @@ returns-3 c =
     let s : ℕ = a .b * 8192 + a .i * FIELDS in
     c .mixed-word .ensures
     ∙ ap (λ (w : ℕ). pack 16 (mixedAt (requestOf (a .edit .q)) w s) FIELDS s) (c .before .old-word2 .ensures)
-    ∙ word-across (a .edit .f .paw) (a .edit .f .first .0) (length (a .words .now) / WORDS) (a .words .now) (requestOf (a .edit .q)) (pre .2 .small) (entryOf (a .e)) (pre .3) (a .b) (a .i) (pre .1)
+    ∙ word-across (frameOf (a .edit .f) (a .words .now)) board-shape (a .words .now) (requestOf (a .edit .q)) (pre .2 .small) (entryOf (a .e)) (pre .3) (a .b) (a .i) (pre .1)
     (subst (λ (k : ℕ). k < ENTRY) (c .before .old-word2 .ensures) (omega arith))
 
 pub after-word-spec : {M : Type 1} → statement M

@@ -2,7 +2,7 @@
 use mathlib.Core.Path.{_≡_, ap, subst, _∙_}
 use Prim.Native.Nat.{ℕ, _+_, _/_}
 use native.Mathlib.Omega.{arith}
-use Rattle.forms.proofs.SpliceLaws.{mixed-spliced}
+use Rattle.shapes.proofs.SpliceLaws.{mixed-spliced}
 use Rattle.table.specs.Board.{FIELDS}
 use Rattle.types.specs.Range.{Cut}
 use Rattle.types.specs.Views.{requestOf}
@@ -41,7 +41,7 @@ returns c =
     let to : (a .q .start .0 + a .q .size) / 4096 ≡ (a .q .start .0 + a .q .size + 4095) / 4096 = omega (arith, s .pre .1 .starts, s .pre .1 .whole) in
     c .splice-fields2 .ensures
     ∙ ap (λ (w : ℕ). spliced 16 hi w (a .old)) (c .before .splice-fields .ensures ∙ ap (spliced 16 lo (a .old)) (c .before .before .spread .ensures))
-    ∙ mixed-spliced (requestOf (a .q)) (a .s) lo hi (subst (λ (n : ℕ). Cut n (a .s) FIELDS lo) from (k .before .before .cut .ensures))
+    ∙ mixed-spliced (requestOf (a .q)) (subst (λ (n : ℕ). Cut n (a .s) FIELDS lo) from (k .before .before .cut .ensures))
     (subst (λ (n : ℕ). Cut n (a .s) FIELDS hi) to (k .cut2 .ensures)) (a .old) (omega arith) (s .pre .1 .small)
 
 pub mixed-word-spec : {M : Type 1} → statement M

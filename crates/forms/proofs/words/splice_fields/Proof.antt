@@ -3,7 +3,7 @@ use mathlib.Core.Path.{ap, ap₂, sym, subst, _∙_, _≡_}
 use Prim.Native.Nat.{ℕ, _<_}
 use native.Mathlib.Omega.{arith}
 use Rattle.table.specs.Board.{ENTRY, FIELDS}
-use Rattle.forms.proofs.SpliceLaws.{splice-bits}
+use Rattle.shapes.proofs.SpliceLaws.{splice-bits}
 use Rattle.laws.proofs.Splices.{spliced, splice-lt}
 use borrow.Author.Needs.{needs}
 use Rattle.forms.proofs.words.splice_fields.Statement.{statement}
