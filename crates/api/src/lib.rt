@@ -26,7 +26,7 @@ ghost use Rattle.model.specs.Calls.{openSlot, closeSlot};
 ghost use Rattle.slots.specs.Outcomes.{outcomeOf};
 ghost use Rattle.types.specs.Codes.{privilegeAt, kindAt, permissionAt};
 ghost use Rattle.api.specs.CallWords.{version, openedWord, doneWord, lookupWord, soundWord, editWord, editMemory};
-ghost use Rattle.table.specs.Board.{boardFrame, WORDS};
+ghost use Rattle.table.specs.Board.{boardFrame, PAGE-WORDS};
 
 // Slot s, and zero where there is none.
 fn slot_at(slots: [Word; 8], s: u64) -> Word
@@ -76,7 +76,7 @@ pub extern "C" fn mpt_lookup(
     kind: u64,
     address: u64,
 ) -> u64
-    ensures { λ r. ⌜ r ≡ lookupWord (boardFrame paw first (length (now (words .entry)) / WORDS)) (now (words .entry)) mmpt (privilegeAt privilege) (kindAt kind) address ⌝ }
+    ensures { λ r. ⌜ r ≡ lookupWord (boardFrame paw first (length (now (words .entry)) / PAGE-WORDS)) (now (words .entry)) mmpt (privilegeAt privilege) (kindAt kind) address ⌝ }
 {
     let f = Frame {
         paw: paw,
@@ -96,7 +96,7 @@ pub extern "C" fn mpt_lookup(
 
 #[no_mangle]
 pub extern "C" fn mpt_sound(paw: u64, first: u64, words: &[Word], slots: &[Word; 8]) -> u64
-    ensures { λ r. ⌜ r ≡ soundWord (boardFrame paw first (length (now (words .entry)) / WORDS)) (now (words .entry)) (now (slots .entry)) ⌝ }
+    ensures { λ r. ⌜ r ≡ soundWord (boardFrame paw first (length (now (words .entry)) / PAGE-WORDS)) (now (words .entry)) (now (slots .entry)) ⌝ }
 {
     let f = Frame {
         paw: paw,
@@ -119,8 +119,8 @@ pub extern "C" fn mpt_open(
     slot: u64,
     sdid: u64,
 ) -> u64
-    ensures { λ r. ⌜ (r ≡ openedWord (openSlot (boardFrame paw first (length (now (words .entry)) / WORDS)) (now (words .entry)) (now (slots .entry)) slot sdid) slot)
-        × (now (words .exit) ≡ openSlot (boardFrame paw first (length (now (words .entry)) / WORDS)) (now (words .entry)) (now (slots .entry)) slot sdid .memory) ⌝ }
+    ensures { λ r. ⌜ (r ≡ openedWord (openSlot (boardFrame paw first (length (now (words .entry)) / PAGE-WORDS)) (now (words .entry)) (now (slots .entry)) slot sdid) slot)
+        × (now (words .exit) ≡ openSlot (boardFrame paw first (length (now (words .entry)) / PAGE-WORDS)) (now (words .entry)) (now (slots .entry)) slot sdid .memory) ⌝ }
 {
     let f = Frame {
         paw: paw,
@@ -139,7 +139,7 @@ pub extern "C" fn mpt_close(
     slots: &[Word; 8],
     slot: u64,
 ) -> u64
-    ensures { λ r. ⌜ r ≡ doneWord (closeSlot (boardFrame paw first (length (now (words .entry)) / WORDS)) (now (words .entry)) (now (slots .entry)) slot) ⌝ }
+    ensures { λ r. ⌜ r ≡ doneWord (closeSlot (boardFrame paw first (length (now (words .entry)) / PAGE-WORDS)) (now (words .entry)) (now (slots .entry)) slot) ⌝ }
 {
     let f = Frame {
         paw: paw,
@@ -162,8 +162,8 @@ pub extern "C" fn mpt_edit(
     permission: u64,
     limit: u64,
 ) -> u64
-    ensures { λ r. ⌜ (r ≡ editWord (boardFrame paw first (length (now (words .entry)) / WORDS)) (now (words .entry)) (now (slots .entry)) slot start size (permissionAt permission) limit)
-        × (now (words .exit) ≡ editMemory (boardFrame paw first (length (now (words .entry)) / WORDS)) (now (words .entry)) (now (slots .entry)) slot start size (permissionAt permission) limit) ⌝ }
+    ensures { λ r. ⌜ (r ≡ editWord (boardFrame paw first (length (now (words .entry)) / PAGE-WORDS)) (now (words .entry)) (now (slots .entry)) slot start size (permissionAt permission) limit)
+        × (now (words .exit) ≡ editMemory (boardFrame paw first (length (now (words .entry)) / PAGE-WORDS)) (now (words .entry)) (now (slots .entry)) slot start size (permissionAt permission) limit) ⌝ }
 {
     let f = Frame {
         paw: paw,

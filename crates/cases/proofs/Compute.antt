@@ -1,10 +1,8 @@
 -- What unfolds when a case is computed, and the quick edit of a state.
 use mathlib.Core.Path.{_≡_, ap, _∙_}
-use mathlib.Core.List.{List, headD, map}
+use mathlib.Core.List.{headD}
 use Prim.Native.Nat.{ℕ, _<_}
 use lib.Dec.{lit<}
-use lib.ListN.{getD, length, replicate, take, drop, set}
-use lib.Seq.{sets}
 use Rattle.model.specs.Numbers.{every, joined, each, member, distinct, digit, pack}
 use Rattle.model.specs.Layout.{rv64, piecePages}
 use Rattle.model.specs.Register.{ppnOf, wpriOf, sdidOf, modeOf, registerOf, isBare, registerOk}

@@ -1,15 +1,13 @@
 -- Each state that the cases start from, in numbers: what document 01 says of it, and that the definitions compute it.
-use mathlib.Core.Path.{_≡_, refl, ap, _∙_}
+use mathlib.Core.Path.{_≡_, refl, ap}
 use mathlib.Core.Bool.{true, false}
 use mathlib.Core.List.{List, [], _∷_}
 use Prim.Native.Nat.{ℕ}
 use lib.ListN.{replicate, set}
 use lib.Seq.{sets}
-use Rattle.model.specs.Frame.{Frame}
-use Rattle.model.specs.Forms.{Request}
 use Rattle.model.specs.Fence.{Fence, noFence, domainFence, addressFence}
 use Rattle.model.specs.Calls.{Outcome, Reply, opened, edited}
-use Rattle.cases.specs.Bench.{bench, smallBench, none, rx, readWrite, ask, most, opens, edits, blank, new, afterC, afterF, afterG, afterH, cut512, cut513, small0, small1, small2, afterL, afterM, afterM2, withZero, unfinished, afterO, onePageShort, afterT}
+use Rattle.cases.specs.Bench.{bench, smallBench, none, rx, readWrite, ask, most, blank, new, afterC, afterF, afterG, afterH, cut512, cut513, small0, small1, small2, afterL, afterM, afterM2, withZero, unfinished, afterO, onePageShort, afterT}
 use Rattle.cases.proofs.Passes.{pasted, sets-pasted}
 use Rattle.cases.proofs.Calls.{quickOpen}
 use Rattle.cases.proofs.Compute.{compute, quick, run, run-open}

@@ -1,14 +1,14 @@
 -- The stores of an edit, with the words of L1 pages by runs of pages and read quickly: the same, and quick.
 -- The idea: most L1 entries hold 16 pages of one permission, so their word is that permission times 0x1111111111111111.
-use mathlib.Core.Path.{_≡_, refl, sym, ap, ap₂, _∙_, fun-ext}
+use mathlib.Core.Path.{_≡_, refl, ap, ap₂, _∙_, fun-ext}
 use mathlib.Core.Bool.{true, false}
 use mathlib.Core.List.{List, [], _∷_, _++_, tail, headD}
-use Prim.Native.Nat.{ℕ, zero, suc, _+_, _*_, _<_}
+use Prim.Native.Nat.{ℕ, suc, _+_, _*_, _<_}
 use lib.Dec.{eqb, ltb}
 use Rattle.model.specs.Numbers.{if_then_else_, joined, pack}
 use Rattle.model.specs.Layout.{blockPages, piecePages}
 use Rattle.model.specs.Entry.{Entry, flat, pieces, table, invalid, encode}
-use Rattle.model.specs.Frame.{Frame, wordAt}
+use Rattle.model.specs.Frame.{Frame}
 use Rattle.model.specs.Walk.{entryAt}
 use Rattle.model.specs.Forms.{Request, Form, wantFlat, wantPieces, wantTable, afterIn, l1Word}
 use Rattle.model.specs.Stores.{Store, needsPage, storeAt, storeL2, ifChanged, ifChangedL2, sameTable, newTable, linkTable, blockStores, storesFrom}

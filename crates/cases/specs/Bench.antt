@@ -7,10 +7,9 @@ use Rattle.model.specs.Layout.{rv64}
 use Rattle.model.specs.Frame.{Frame, wordAt}
 use Rattle.model.specs.Bytes.{byteAt}
 use Rattle.model.specs.Access.{Kind, Answer}
-use Rattle.model.specs.Lookup.{Privilege, supervisor, lookup}
-use Rattle.model.specs.Sound.{Slot, emptySlot, roots, freePages}
+use Rattle.model.specs.Lookup.{supervisor, lookup}
+use Rattle.model.specs.Sound.{emptySlot, roots, freePages}
 use Rattle.model.specs.Forms.{Request}
-use Rattle.model.specs.Stores.{Store}
 use Rattle.model.specs.Fence.{noFence}
 use Rattle.model.specs.Calls.{Outcome, opened, openSlot, closeSlot, editSlot, storeList}
 

@@ -6,11 +6,12 @@ use entries::rows::flat_entries;
 use entries::rows::pieces_row;
 use forms::blocks::block_form;
 use table::board::PIECE_ENTRY;
-use table::board::TYPE;
+use table::board::TYPE_UNIT;
 use table::board::Word;
 use table::board::narrow;
 use table::lent::page_at;
 use table::root::entry_at;
+use types::BlocksProgress;
 use types::Budget;
 use types::Edit;
 use types::Entry;
@@ -20,7 +21,6 @@ use types::Gib;
 use types::NewPage;
 use types::PageNumber;
 use types::Progress;
-use types::Step;
 use types::blocks::next_page;
 use types::blocks::page_from;
 use types::pages::GIB_BLOCKS;
@@ -42,13 +42,13 @@ ghost use Rattle.model.specs.Frame.{lent, blocks};
 ghost use Rattle.model.specs.Stores.{Store, needsPage, ifChangedL2, blockStores};
 ghost use Rattle.types.specs.Views.{entryOf, requestOf, formOf, freeList};
 ghost use Rattle.shapes.specs.Rooted.{Good, Rooted};
-ghost use Rattle.table.specs.Board.{BLOCKS, board, frameOf};
+ghost use Rattle.table.specs.Board.{MAX-BLOCKS, board, frameOf};
 
 // The L2 entry of block b, if it changes.
 fn put_entry(edit: Edit, words: &mut [Word], b: u64, word: Word, left: Budget) -> Progress
     ghost { List Store }
     requires { λ ss. ⌜ ss ≡ ifChangedL2 (frameOf (edit .f) (now words)) (now words) (edit .root .0) b word ⌝ }
-    requires { λ ss. ⌜ (b < BLOCKS) × (lent (frameOf (edit .f) (now words)) (edit .root .0) ≡ true) × Ahead (now words) ss ⌝ }
+    requires { λ ss. ⌜ (b < MAX-BLOCKS) × (lent (frameOf (edit .f) (now words)) (edit .root .0) ≡ true) × Ahead (now words) ss ⌝ }
     ensures { λ ss r. ⌜ out (r .all) (r .left) (now (words .exit)) ≡ run left ss (now (words .entry)) ⌝ }
 {
     let at = page_at(edit.f, words, edit.root) + b as usize;
@@ -66,7 +66,7 @@ fn store_table(
 ) -> Progress
     ghost { List Store }
     requires { λ ss. ⌜ ss ≡ blockStores (frameOf (edit .f) (now words)) (now words) (requestOf (edit .q)) (edit .root .0) wantTable (entryOf e) b (new .0) ⌝ }
-    requires { λ ss. ⌜ (b < BLOCKS) × Fair (edit .q) × Good (frameOf (edit .f) (now words)) (now words) (entryOf e) × (lent (frameOf (edit .f) (now words)) (edit .root .0) ≡ true)
+    requires { λ ss. ⌜ (b < MAX-BLOCKS) × Fair (edit .q) × Good (frameOf (edit .f) (now words)) (now words) (entryOf e) × (lent (frameOf (edit .f) (now words)) (edit .root .0) ≡ true)
         × (needsPage wantTable (entryOf e) ≡ true → (lent (frameOf (edit .f) (now words)) (new .0) ≡ true) × (new .0 < 2 ^ board .infoBits)) × Ahead (now words) ss ⌝ }
     ensures { λ ss r. ⌜ out (r .all) (r .left) (now (words .exit)) ≡ run left ss (now (words .entry)) ⌝ }
 {
@@ -93,12 +93,12 @@ fn store_block(
 ) -> Progress
     ghost { List Store }
     requires { λ ss. ⌜ ss ≡ blockStores (frameOf (edit .f) (now words)) (now words) (requestOf (edit .q)) (edit .root .0) (formOf form) (entryOf e) b (new .0) ⌝ }
-    requires { λ ss. ⌜ (b < BLOCKS) × Fair (edit .q) × Good (frameOf (edit .f) (now words)) (now words) (entryOf e) × (lent (frameOf (edit .f) (now words)) (edit .root .0) ≡ true)
+    requires { λ ss. ⌜ (b < MAX-BLOCKS) × Fair (edit .q) × Good (frameOf (edit .f) (now words)) (now words) (entryOf e) × (lent (frameOf (edit .f) (now words)) (edit .root .0) ≡ true)
         × (needsPage (formOf form) (entryOf e) ≡ true → (lent (frameOf (edit .f) (now words)) (new .0) ≡ true) × (new .0 < 2 ^ board .infoBits)) × Encodes board (formOf form) × Ahead (now words) ss ⌝ }
     ensures { λ ss r. ⌜ out (r .all) (r .left) (now (words .exit)) ≡ run left ss (now (words .entry)) ⌝ }
 {
     match form {
-        Form::Flat(p) => put_entry(edit, words, b, narrow(p * TYPE), left),
+        Form::Flat(p) => put_entry(edit, words, b, narrow(p * TYPE_UNIT), left),
         Form::Pieces(info) => put_entry(edit, words, b, narrow(PIECE_ENTRY + info), left),
         Form::Table => store_table(edit, words, e, b, new, left),
     }
@@ -113,7 +113,7 @@ fn one_block(
     free: Free,
     next: u64,
     left: Budget,
-) -> Step
+) -> BlocksProgress
     requires { ⌜ Rooted (frameOf (edit .f) (now words)) (now words) (edit .root .0) × (b < blocks (frameOf (edit .f) (now words))) × Fair (edit .q) × (gib .p < 4) × (next < 2 ^ 32)
         × HasNewPage (frameOf (edit .f) (now words)) (now words) (requestOf (edit .q)) (edit .root .0) gib b (headD (drop next (freeList free)) 0)
         × Ahead (now words) (storesOver (frameOf (edit .f) (now words)) (now words) (requestOf (edit .q)) (edit .root .0) gib 1 b (drop next (freeList free))) ⌝ }
@@ -125,7 +125,7 @@ fn one_block(
     let after = next_page(form, e, next);
     let progress = store_block(edit, words, form, e, b, new, left);
     let rest = progress.left;
-    Step {
+    BlocksProgress {
         all: progress.all,
         left: rest,
         next: after,
@@ -142,16 +142,16 @@ fn flat_blocks(
     free: Free,
     next: u64,
     left: Budget,
-) -> Step
-    requires { ⌜ (lent (frameOf (edit .f) (now words)) (edit .root .0) ≡ true) × (b < BLOCKS) × (gib .p < 4) × (gib .one ≡ true)
+) -> BlocksProgress
+    requires { ⌜ (lent (frameOf (edit .f) (now words)) (edit .root .0) ≡ true) × (b < MAX-BLOCKS) × (gib .p < 4) × (gib .one ≡ true)
         × Ahead (now words) (storesOver (frameOf (edit .f) (now words)) (now words) (requestOf (edit .q)) (edit .root .0) gib (gibBlocks - b % gibBlocks) b (drop next (freeList free))) ⌝ }
     ensures { λ r. ⌜ Advanced (frameOf (edit .f) (now (words .entry))) (now (words .entry)) (requestOf (edit .q)) (edit .root .0) gib b (freeList free) next left r (now (words .exit)) ⌝ }
 {
     let n = GIB_BLOCKS - b % GIB_BLOCKS;
     let at = page_at(edit.f, words, edit.root) + b as usize;
-    let progress = flat_entries(words, at, n as usize, narrow(gib.p * TYPE), left);
+    let progress = flat_entries(words, at, n as usize, narrow(gib.p * TYPE_UNIT), left);
     let rest = progress.left;
-    Step {
+    BlocksProgress {
         all: progress.all,
         left: rest,
         next: next,
@@ -169,7 +169,7 @@ fn mixed_blocks(
     free: Free,
     next: u64,
     left: Budget,
-) -> Step
+) -> BlocksProgress
     requires { ⌜ Rooted (frameOf (edit .f) (now words)) (now words) (edit .root .0) × (b / gibBlocks * gibBlocks + gibBlocks ≤ blocks (frameOf (edit .f) (now words))) × Fair (edit .q) × (gib .p < 4) × (next < 2 ^ 32)
         × HasNewPage (frameOf (edit .f) (now words)) (now words) (requestOf (edit .q)) (edit .root .0) gib b (headD (drop next (freeList free)) 0) × (gib .one ≡ false)
         × Ahead (now words) (storesOver (frameOf (edit .f) (now words)) (now words) (requestOf (edit .q)) (edit .root .0) gib (gibBlocks - b % gibBlocks) b (drop next (freeList free))) ⌝ }
@@ -182,7 +182,7 @@ fn mixed_blocks(
         return one_block(edit, words, gib, b, free, next, left);
     }
     let rest = row.left;
-    Step {
+    BlocksProgress {
         all: row.all,
         left: rest,
         next: next,
@@ -199,7 +199,7 @@ pub fn next_blocks(
     free: Free,
     next: u64,
     left: Budget,
-) -> Step
+) -> BlocksProgress
     requires { ⌜ Rooted (frameOf (edit .f) (now words)) (now words) (edit .root .0) × (b / gibBlocks * gibBlocks + gibBlocks ≤ blocks (frameOf (edit .f) (now words))) × Fair (edit .q) × (gib .p < 4) × (next < 2 ^ 32)
         × HasNewPage (frameOf (edit .f) (now words)) (now words) (requestOf (edit .q)) (edit .root .0) gib b (headD (drop next (freeList free)) 0)
         × Ahead (now words) (storesOver (frameOf (edit .f) (now words)) (now words) (requestOf (edit .q)) (edit .root .0) gib (gibBlocks - b % gibBlocks) b (drop next (freeList free))) ⌝ }

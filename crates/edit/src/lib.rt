@@ -12,16 +12,16 @@ use types::Fence;
 use types::Frame;
 use types::Free;
 use types::Gib;
-use types::Made;
 use types::PageNumber;
 use types::Progress;
 use types::Sdid;
+use types::StoresMade;
 use types::pages::GIB_BLOCKS;
 use types::pages::GIB_BYTES;
 use types::pages::PAGE_BYTES;
 ghost use mathlib.Core.Path.{_≡_};
 ghost use mathlib.Core.Bool.{true};
-ghost use Rattle.sequence.specs.Made.{fenceAfter, IsMade};
+ghost use Rattle.sequence.specs.StoresMade.{fenceAfter, IsMade};
 ghost use Rattle.sequence.specs.Blocks.{Prepared, wholeList};
 ghost use Rattle.shapes.specs.Run.{out, run};
 ghost use Rattle.model.specs.Fence.{inRoot};
@@ -73,7 +73,7 @@ fn in_root(f: Frame, words: &[Word], root: PageNumber, at: usize) -> bool
 }
 
 // The fence after count stores, the last to word at, that were all or were cut.
-fn fence_of(edit: Edit, words: &[Word], sdid: Sdid, count: u64, all: bool, at: usize) -> Fence
+fn fence_after(edit: Edit, words: &[Word], sdid: Sdid, count: u64, all: bool, at: usize) -> Fence
     requires { ⌜ (lent (frameOf (edit .f) (now words)) (edit .root .0) ≡ true) × (boundsOk (frameOf (edit .f) (now words)) ≡ true) ⌝ }
     ensures { λ r. ⌜ fenceOf r ≡ fenceAfter (frameOf (edit .f) (now (words .entry))) (requestOf (edit .q)) (edit .root .0) (sdid .0) count all at ⌝ }
 {
@@ -97,7 +97,7 @@ fn fence_of(edit: Edit, words: &[Word], sdid: Sdid, count: u64, all: bool, at: u
 }
 
 // An edit that no refusal fits.
-pub fn make(edit: Edit, words: &mut [Word], sdid: Sdid, free: Free, limit: u64) -> Made
+pub fn make(edit: Edit, words: &mut [Word], sdid: Sdid, free: Free, limit: u64) -> StoresMade
     requires { ⌜ Prepared (frameOf (edit .f) (now words)) (now words) (requestOf (edit .q)) (edit .root .0) (freeList free) ⌝ }
     ensures { λ r. ⌜ IsMade (frameOf (edit .f) (now (words .entry))) (requestOf (edit .q)) (edit .root .0) (sdid .0)
         (wholeList (frameOf (edit .f) (now (words .entry))) (now (words .entry)) (requestOf (edit .q)) (edit .root .0) (freeList free)) limit (now (words .entry)) (now (words .exit)) r ⌝ }
@@ -111,15 +111,15 @@ pub fn make(edit: Edit, words: &mut [Word], sdid: Sdid, free: Free, limit: u64) 
     let all = progress.all;
     if all {
         let count = limit - rest.more;
-        let fence = fence_of(edit, words, sdid, count, true, rest.last);
-        return Made {
+        let fence = fence_after(edit, words, sdid, count, true, rest.last);
+        return StoresMade {
             count: count,
             all: true,
             fence: fence,
         };
     }
-    let fence = fence_of(edit, words, sdid, limit, false, 0);
-    Made {
+    let fence = fence_after(edit, words, sdid, limit, false, 0);
+    StoresMade {
         count: limit,
         all: false,
         fence: fence,

@@ -19,7 +19,6 @@ use crate::say::text;
 use types::Access;
 use types::Kind;
 use types::Permission;
-ghost use Prim.Native.Nat.{_≤_, _<_};
 
 // The edit of case C.
 fn edit_c(words: &mut [u64; 8192], slots: [u64; 8], limit: u64) -> [u64; 8] {

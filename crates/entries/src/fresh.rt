@@ -21,7 +21,7 @@ ghost use mathlib.Core.Path.{_≡_};
 ghost use mathlib.Core.Bool.{true};
 ghost use mathlib.Core.List.{List, [], _∷_};
 ghost use Prim.Native.Nat.{ℕ, _+_, _-_, _*_, _≤_, _<_};
-ghost use Rattle.table.specs.Board.{BLOCKS, WORDS, FIELDS, frameOf};
+ghost use Rattle.table.specs.Board.{MAX-BLOCKS, PAGE-WORDS, FIELDS, frameOf};
 ghost use Rattle.shapes.specs.Ahead.{Ahead};
 ghost use Rattle.shapes.specs.Pages.{Plain, newRun};
 ghost use Rattle.shapes.specs.Run.{out, run};
@@ -39,7 +39,7 @@ ghost use Rattle.types.specs.Range.{Fair, Lies};
 fn new_entry(edit: Edit, words: &mut [Word], new: NewPage, i: u64, left: Budget) -> Progress
     ghost { List Store }
     requires { λ ss. ⌜ ss ≡ (storeAt (frameOf (edit .f) (now words)) (new .page .0) i (l1Word (frameOf (edit .f) (now words)) (now words) (requestOf (edit .q)) (entryOf (new .e)) (new .b) i) ∷ []) ⌝ }
-    requires { λ ss. ⌜ (new .b < BLOCKS) × (i < WORDS) × Fair (edit .q) × Good (frameOf (edit .f) (now words)) (now words) (entryOf (new .e)) × (lent (frameOf (edit .f) (now words)) (new .page .0) ≡ true) × Ahead (now words) ss ⌝ }
+    requires { λ ss. ⌜ (new .b < MAX-BLOCKS) × (i < PAGE-WORDS) × Fair (edit .q) × Good (frameOf (edit .f) (now words)) (now words) (entryOf (new .e)) × (lent (frameOf (edit .f) (now words)) (new .page .0) ≡ true) × Ahead (now words) ss ⌝ }
     ensures { λ ss r. ⌜ out (r .all) (r .left) (now (words .exit)) ≡ run left ss (now (words .entry)) ⌝ }
 {
     let e = new.e;
@@ -59,7 +59,7 @@ fn new_entries(
 ) -> Progress
     ghost { List Store }
     requires { λ ss. ⌜ ss ≡ newRun (frameOf (edit .f) (now words)) (now words) (requestOf (edit .q)) (entryOf (new .e)) (new .b) (new .page .0) (to - from) from ⌝ }
-    requires { λ ss. ⌜ (new .b < BLOCKS) × (to ≤ WORDS) × (from ≤ to) × Fair (edit .q) × Good (frameOf (edit .f) (now words)) (now words) (entryOf (new .e)) × (lent (frameOf (edit .f) (now words)) (new .page .0) ≡ true) × Plain (entryOf (new .e)) × Ahead (now words) ss ⌝ }
+    requires { λ ss. ⌜ (new .b < MAX-BLOCKS) × (to ≤ PAGE-WORDS) × (from ≤ to) × Fair (edit .q) × Good (frameOf (edit .f) (now words)) (now words) (entryOf (new .e)) × (lent (frameOf (edit .f) (now words)) (new .page .0) ≡ true) × Plain (entryOf (new .e)) × Ahead (now words) ss ⌝ }
     ensures { λ ss r. ⌜ out (r .all) (r .left) (now (words .exit)) ≡ run left ss (now (words .entry)) ⌝ }
 {
     let mut more = left;
@@ -79,7 +79,7 @@ fn new_entries(
 
 // Where the entries from i on stop being the same word, if the edit leaves them as they are: `to` at the latest.
 fn same_until(e: Entry, i: u64, to: u64) -> u64
-    requires { ⌜ (i < to) × (to ≤ WORDS) ⌝ }
+    requires { ⌜ (i < to) × (to ≤ PAGE-WORDS) ⌝ }
     ensures { λ r. ⌜ (i < r) × (r ≤ to) × ((f : Frame) (m : List ℕ) (k : ℕ) → i ≤ k → k < r → oldWord (frameOf f m) m (entryOf e) k ≡ oldWord (frameOf f m) m (entryOf e) i) ⌝ }
 {
     let piece = (i / PIECE_WORDS + 1) * PIECE_WORDS;
@@ -102,7 +102,7 @@ fn old_fill(
 ) -> Progress
     ghost { List Store }
     requires { λ ss. ⌜ ss ≡ newRun (frameOf (edit .f) (now words)) (now words) (requestOf (edit .q)) (entryOf (new .e)) (new .b) (new .page .0) (to - from) from ⌝ }
-    requires { λ ss. ⌜ (new .b < BLOCKS) × (to ≤ WORDS) × (from < to) × Fair (edit .q) × Good (frameOf (edit .f) (now words)) (now words) (entryOf (new .e)) × (lent (frameOf (edit .f) (now words)) (new .page .0) ≡ true) × Plain (entryOf (new .e))
+    requires { λ ss. ⌜ (new .b < MAX-BLOCKS) × (to ≤ PAGE-WORDS) × (from < to) × Fair (edit .q) × Good (frameOf (edit .f) (now words)) (now words) (entryOf (new .e)) × (lent (frameOf (edit .f) (now words)) (new .page .0) ≡ true) × Plain (entryOf (new .e))
         × Lies (requestOf (edit .q)) (new .b * blockPages + from * FIELDS) ((to - from) * FIELDS) Place.Outside × ((k : ℕ) → from ≤ k → k < to → oldWord (frameOf (edit .f) (now words)) (now words) (entryOf (new .e)) k ≡ oldWord (frameOf (edit .f) (now words)) (now words) (entryOf (new .e)) from) × Ahead (now words) ss ⌝ }
     ensures { λ ss r. ⌜ out (r .all) (r .left) (now (words .exit)) ≡ run left ss (now (words .entry)) ⌝ }
 {
@@ -131,7 +131,7 @@ fn old_entries(
 ) -> Progress
     ghost { List Store }
     requires { λ ss. ⌜ ss ≡ newRun (frameOf (edit .f) (now words)) (now words) (requestOf (edit .q)) (entryOf (new .e)) (new .b) (new .page .0) (to - from) from ⌝ }
-    requires { λ ss. ⌜ (new .b < BLOCKS) × (to ≤ WORDS) × (from ≤ to) × Fair (edit .q) × Good (frameOf (edit .f) (now words)) (now words) (entryOf (new .e)) × (lent (frameOf (edit .f) (now words)) (new .page .0) ≡ true) × Plain (entryOf (new .e))
+    requires { λ ss. ⌜ (new .b < MAX-BLOCKS) × (to ≤ PAGE-WORDS) × (from ≤ to) × Fair (edit .q) × Good (frameOf (edit .f) (now words)) (now words) (entryOf (new .e)) × (lent (frameOf (edit .f) (now words)) (new .page .0) ≡ true) × Plain (entryOf (new .e))
         × Lies (requestOf (edit .q)) (new .b * blockPages + from * FIELDS) ((to - from) * FIELDS) Place.Outside × Ahead (now words) ss ⌝ }
     ensures { λ ss r. ⌜ out (r .all) (r .left) (now (words .exit)) ≡ run left ss (now (words .entry)) ⌝ }
 {
@@ -156,8 +156,8 @@ fn old_entries(
 
 // Where the entries that the range can meet end, which is not before they begin.
 fn near_end(q: Request, b: u64, from: u64) -> u64
-    requires { ⌜ (b < BLOCKS) × (from ≤ WORDS) × Fair q ⌝ }
-    ensures { λ r. ⌜ (from ≤ r) × (r ≤ WORDS) × Past (requestOf q) b r ⌝ }
+    requires { ⌜ (b < MAX-BLOCKS) × (from ≤ PAGE-WORDS) × Fair q ⌝ }
+    ensures { λ r. ⌜ (from ≤ r) × (r ≤ PAGE-WORDS) × Past (requestOf q) b r ⌝ }
 {
     let past = past_entry(q, b);
     if past < from {
@@ -170,7 +170,7 @@ fn near_end(q: Request, b: u64, from: u64) -> u64
 pub fn fill_page(edit: Edit, words: &mut [Word], new: NewPage, left: Budget) -> Progress
     ghost { List Store }
     requires { λ ss. ⌜ ss ≡ newTable (frameOf (edit .f) (now words)) (now words) (requestOf (edit .q)) (entryOf (new .e)) (new .b) (new .page .0) ⌝ }
-    requires { λ ss. ⌜ (new .b < BLOCKS) × Fair (edit .q) × Good (frameOf (edit .f) (now words)) (now words) (entryOf (new .e)) × (lent (frameOf (edit .f) (now words)) (new .page .0) ≡ true) × Plain (entryOf (new .e)) × Ahead (now words) ss ⌝ }
+    requires { λ ss. ⌜ (new .b < MAX-BLOCKS) × Fair (edit .q) × Good (frameOf (edit .f) (now words)) (now words) (entryOf (new .e)) × (lent (frameOf (edit .f) (now words)) (new .page .0) ≡ true) × Plain (entryOf (new .e)) × Ahead (now words) ss ⌝ }
     ensures { λ ss r. ⌜ out (r .all) (r .left) (now (words .exit)) ≡ run left ss (now (words .entry)) ⌝ }
 {
     let from = first_entry(edit.q, new.b);

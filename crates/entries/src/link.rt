@@ -13,7 +13,7 @@ ghost use mathlib.Core.Path.{_≡_};
 ghost use mathlib.Core.Bool.{true};
 ghost use mathlib.Core.List.{List, [], _∷_};
 ghost use Prim.Native.Nat.{_<_, _^_};
-ghost use Rattle.table.specs.Board.{BLOCKS, board, frameOf};
+ghost use Rattle.table.specs.Board.{MAX-BLOCKS, board, frameOf};
 ghost use Rattle.shapes.specs.Ahead.{Ahead};
 ghost use Rattle.shapes.specs.Pages.{Plain};
 ghost use Rattle.shapes.specs.Run.{out, run};
@@ -28,7 +28,7 @@ ghost use Rattle.shapes.specs.Rooted.{Good};
 fn link_page(edit: Edit, words: &mut [Word], new: NewPage, left: Budget) -> Progress
     ghost { List Store }
     requires { λ ss. ⌜ ss ≡ (storeL2 (frameOf (edit .f) (now words)) (edit .root .0) (new .b) (encode board (table (new .page .0))) ∷ []) ⌝ }
-    requires { λ ss. ⌜ (new .b < BLOCKS) × (lent (frameOf (edit .f) (now words)) (edit .root .0) ≡ true) × (new .page .0 < 2 ^ board .infoBits) × Ahead (now words) ss ⌝ }
+    requires { λ ss. ⌜ (new .b < MAX-BLOCKS) × (lent (frameOf (edit .f) (now words)) (edit .root .0) ≡ true) × (new .page .0 < 2 ^ board .infoBits) × Ahead (now words) ss ⌝ }
     ensures { λ ss r. ⌜ out (r .all) (r .left) (now (words .exit)) ≡ run left ss (now (words .entry)) ⌝ }
 {
     let at = page_at(edit.f, words, edit.root) + new.b as usize;
@@ -39,7 +39,7 @@ fn link_page(edit: Edit, words: &mut [Word], new: NewPage, left: Budget) -> Prog
 pub fn link_table(edit: Edit, words: &mut [Word], new: NewPage, left: Budget) -> Progress
     ghost { List Store }
     requires { λ ss. ⌜ ss ≡ linkTable (frameOf (edit .f) (now words)) (now words) (requestOf (edit .q)) (edit .root .0) (entryOf (new .e)) (new .b) (new .page .0) ⌝ }
-    requires { λ ss. ⌜ (new .b < BLOCKS) × Fair (edit .q) × Good (frameOf (edit .f) (now words)) (now words) (entryOf (new .e)) × (lent (frameOf (edit .f) (now words)) (new .page .0) ≡ true) × Plain (entryOf (new .e))
+    requires { λ ss. ⌜ (new .b < MAX-BLOCKS) × Fair (edit .q) × Good (frameOf (edit .f) (now words)) (now words) (entryOf (new .e)) × (lent (frameOf (edit .f) (now words)) (new .page .0) ≡ true) × Plain (entryOf (new .e))
         × (lent (frameOf (edit .f) (now words)) (edit .root .0) ≡ true) × (new .page .0 < 2 ^ board .infoBits) × Ahead (now words) ss ⌝ }
     ensures { λ ss r. ⌜ out (r .all) (r .left) (now (words .exit)) ≡ run left ss (now (words .entry)) ⌝ }
 {

@@ -16,7 +16,7 @@ use types::pages::lies;
 ghost use mathlib.Core.Path.{_≡_};
 ghost use mathlib.Core.List.{List};
 ghost use Prim.Native.Nat.{_<_};
-ghost use Rattle.table.specs.Board.{BLOCKS, WORDS, frameOf};
+ghost use Rattle.table.specs.Board.{MAX-BLOCKS, PAGE-WORDS, frameOf};
 ghost use Rattle.shapes.specs.Ahead.{Ahead};
 ghost use Rattle.shapes.specs.Run.{out, run};
 ghost use Rattle.types.specs.Range.{Fair};
@@ -37,7 +37,7 @@ fn same_entry(
 ) -> Progress
     ghost { List Store }
     requires { λ ss. ⌜ ss ≡ ifChanged (frameOf (edit .f) (now words)) (now words) (t .0) i (l1Word (frameOf (edit .f) (now words)) (now words) (requestOf (edit .q)) (entry.table (t .0)) b i) ⌝ }
-    requires { λ ss. ⌜ (b < BLOCKS) × (i < WORDS) × Fair (edit .q) × Good (frameOf (edit .f) (now words)) (now words) (entry.table (t .0)) × Ahead (now words) ss ⌝ }
+    requires { λ ss. ⌜ (b < MAX-BLOCKS) × (i < PAGE-WORDS) × Fair (edit .q) × Good (frameOf (edit .f) (now words)) (now words) (entry.table (t .0)) × Ahead (now words) ss ⌝ }
     ensures { λ ss r. ⌜ out (r .all) (r .left) (now (words .exit)) ≡ run left ss (now (words .entry)) ⌝ }
 {
     let at = page_at(edit.f, words, t) + i as usize;
@@ -49,7 +49,7 @@ fn same_entry(
 fn same_table(edit: Edit, words: &mut [Word], t: PageNumber, b: u64, left: Budget) -> Progress
     ghost { List Store }
     requires { λ ss. ⌜ ss ≡ sameTable (frameOf (edit .f) (now words)) (now words) (requestOf (edit .q)) (entry.table (t .0)) b (t .0) ⌝ }
-    requires { λ ss. ⌜ (b < BLOCKS) × Fair (edit .q) × Good (frameOf (edit .f) (now words)) (now words) (entry.table (t .0)) × Ahead (now words) ss ⌝ }
+    requires { λ ss. ⌜ (b < MAX-BLOCKS) × Fair (edit .q) × Good (frameOf (edit .f) (now words)) (now words) (entry.table (t .0)) × Ahead (now words) ss ⌝ }
     ensures { λ ss r. ⌜ out (r .all) (r .left) (now (words .exit)) ≡ run left ss (now (words .entry)) ⌝ }
 {
     let from = first_entry(edit.q, b);
@@ -73,7 +73,7 @@ fn same_table(edit: Edit, words: &mut [Word], t: PageNumber, b: u64, left: Budge
 pub fn own_table(edit: Edit, words: &mut [Word], t: PageNumber, b: u64, left: Budget) -> Progress
     ghost { List Store }
     requires { λ ss. ⌜ ss ≡ sameTable (frameOf (edit .f) (now words)) (now words) (requestOf (edit .q)) (entry.table (t .0)) b (t .0) ⌝ }
-    requires { λ ss. ⌜ (b < BLOCKS) × Fair (edit .q) × Good (frameOf (edit .f) (now words)) (now words) (entry.table (t .0)) × Ahead (now words) ss ⌝ }
+    requires { λ ss. ⌜ (b < MAX-BLOCKS) × Fair (edit .q) × Good (frameOf (edit .f) (now words)) (now words) (entry.table (t .0)) × Ahead (now words) ss ⌝ }
     ensures { λ ss r. ⌜ out (r .all) (r .left) (now (words .exit)) ≡ run left ss (now (words .entry)) ⌝ }
 {
     match lies(edit.q, b * BLOCK_PAGES, BLOCK_PAGES) {

@@ -17,14 +17,14 @@ ghost use mathlib.Core.Path.{_≡_};
 ghost use mathlib.Core.Bool.{false};
 ghost use Prim.Native.Nat.{_+_, _*_, _<_};
 ghost use Rattle.types.specs.Range.{Fair, Lies};
-ghost use Rattle.table.specs.Board.{BLOCKS, PIECES, PIECE, frameOf};
+ghost use Rattle.table.specs.Board.{MAX-BLOCKS, PIECES, PIECE-PAGES, frameOf};
 ghost use Rattle.model.specs.Forms.{formIn, afterIn, allAre};
 ghost use Rattle.types.specs.Views.{entryOf, requestOf, formOf};
 ghost use Rattle.shapes.specs.Rooted.{Good};
 
 // The finished form of block b in a GiB that is not of one permission.
 fn pieces_form(edit: Edit, words: &[Word], e: Entry, b: u64) -> Form
-    requires { ⌜ (b < BLOCKS) × Fair (edit .q) × Good (frameOf (edit .f) (now words)) (now words) (entryOf e) ⌝ }
+    requires { ⌜ (b < MAX-BLOCKS) × Fair (edit .q) × Good (frameOf (edit .f) (now words)) (now words) (entryOf e) ⌝ }
     ensures { λ r. ⌜ formOf r ≡ formIn (frameOf (edit .f) (now (words .entry))) (now (words .entry)) (requestOf (edit .q)) false 0 (entryOf e) b ⌝ }
 {
     let mut info: u64 = 0;
@@ -40,9 +40,9 @@ fn pieces_form(edit: Edit, words: &[Word], e: Entry, b: u64) -> Form
 
 // Piece i of block b is of one permission, once the edit is whole.
 fn piece_is_one(edit: Edit, words: &[Word], e: Entry, b: u64, i: u64) -> bool
-    requires { ⌜ (b < BLOCKS) × (i < PIECES) × Fair (edit .q) × Good (frameOf (edit .f) (now words)) (now words) (entryOf e) ⌝ }
+    requires { ⌜ (b < MAX-BLOCKS) × (i < PIECES) × Fair (edit .q) × Good (frameOf (edit .f) (now words)) (now words) (entryOf e) ⌝ }
     ensures { λ r. ⌜ r ≡ allAre (frameOf (edit .f) (now (words .entry))) (now (words .entry)) (requestOf (edit .q)) (entryOf e)
-        (afterIn (frameOf (edit .f) (now (words .entry))) (now (words .entry)) (requestOf (edit .q)) (entryOf e) (b * blockPages + i * PIECE)) PIECE (b * blockPages + i * PIECE) ⌝ }
+        (afterIn (frameOf (edit .f) (now (words .entry))) (now (words .entry)) (requestOf (edit .q)) (entryOf e) (b * blockPages + i * PIECE-PAGES)) PIECE-PAGES (b * blockPages + i * PIECE-PAGES) ⌝ }
 {
     let piece = piece_at(edit, words, e, b, i);
     piece.one
@@ -50,7 +50,7 @@ fn piece_is_one(edit: Edit, words: &[Word], e: Entry, b: u64, i: u64) -> bool
 
 // The same for a block that has an L1 page, across an end of the range. The pieces at the ends of the range come first: if one is mixed, the others are not read.
 fn cut_form(edit: Edit, words: &[Word], e: Entry, b: u64) -> Form
-    requires { ⌜ (b < BLOCKS) × Fair (edit .q) × Good (frameOf (edit .f) (now words)) (now words) (entryOf e) ⌝ }
+    requires { ⌜ (b < MAX-BLOCKS) × Fair (edit .q) × Good (frameOf (edit .f) (now words)) (now words) (entryOf e) ⌝ }
     ensures { λ r. ⌜ formOf r ≡ formIn (frameOf (edit .f) (now (words .entry))) (now (words .entry)) (requestOf (edit .q)) false 0 (entryOf e) b ⌝ }
 {
     if !piece_is_one(edit, words, e, b, edit.q.start.0 / PIECE_BYTES % PIECES) {
@@ -70,7 +70,7 @@ fn cut_form(edit: Edit, words: &[Word], e: Entry, b: u64) -> Form
 
 // The same for a block across an end of the range.
 fn across_form(edit: Edit, words: &[Word], e: Entry, b: u64) -> Form
-    requires { ⌜ (b < BLOCKS) × Fair (edit .q) × Good (frameOf (edit .f) (now words)) (now words) (entryOf e) ⌝ }
+    requires { ⌜ (b < MAX-BLOCKS) × Fair (edit .q) × Good (frameOf (edit .f) (now words)) (now words) (entryOf e) ⌝ }
     ensures { λ r. ⌜ formOf r ≡ formIn (frameOf (edit .f) (now (words .entry))) (now (words .entry)) (requestOf (edit .q)) false 0 (entryOf e) b ⌝ }
 {
     match e {
@@ -83,7 +83,7 @@ fn across_form(edit: Edit, words: &[Word], e: Entry, b: u64) -> Form
 
 // The same for a block outside the range.
 fn outside_form(edit: Edit, words: &[Word], e: Entry, b: u64) -> Form
-    requires { ⌜ (b < BLOCKS) × Fair (edit .q) × Good (frameOf (edit .f) (now words)) (now words) (entryOf e) × Lies (requestOf (edit .q)) (b * blockPages) blockPages Place.Outside ⌝ }
+    requires { ⌜ (b < MAX-BLOCKS) × Fair (edit .q) × Good (frameOf (edit .f) (now words)) (now words) (entryOf e) × Lies (requestOf (edit .q)) (b * blockPages) blockPages Place.Outside ⌝ }
     ensures { λ r. ⌜ formOf r ≡ formIn (frameOf (edit .f) (now (words .entry))) (now (words .entry)) (requestOf (edit .q)) false 0 (entryOf e) b ⌝ }
 {
     match e {
@@ -99,7 +99,7 @@ fn outside_form(edit: Edit, words: &[Word], e: Entry, b: u64) -> Form
 
 // The finished form of block b in a GiB that is or is not of one permission, p.
 pub fn block_form(edit: Edit, words: &[Word], one: bool, p: u64, e: Entry, b: u64) -> Form
-    requires { ⌜ (b < BLOCKS) × Fair (edit .q) × Good (frameOf (edit .f) (now words)) (now words) (entryOf e) ⌝ }
+    requires { ⌜ (b < MAX-BLOCKS) × Fair (edit .q) × Good (frameOf (edit .f) (now words)) (now words) (entryOf e) ⌝ }
     ensures { λ r. ⌜ formOf r ≡ formIn (frameOf (edit .f) (now (words .entry))) (now (words .entry)) (requestOf (edit .q)) one p (entryOf e) b ⌝ }
 {
     if one {

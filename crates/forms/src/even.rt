@@ -16,9 +16,9 @@ use types::pages::PAGE_BYTES;
 use types::pages::cut;
 ghost use mathlib.Core.Path.{_≡_};
 ghost use mathlib.Core.Bool.{false};
-ghost use Prim.Native.Nat.{_<_, _^_};
+ghost use Prim.Native.Nat.{_<_};
 ghost use Rattle.types.specs.Range.{Fair};
-ghost use Rattle.table.specs.Board.{board, BLOCKS, INFO, frameOf};
+ghost use Rattle.table.specs.Board.{board, MAX-BLOCKS, PIECE-INFO, frameOf};
 ghost use Rattle.shapes.specs.Blocks.{Even, Mixes};
 ghost use Rattle.model.specs.Forms.{formIn};
 ghost use Rattle.types.specs.Views.{entryOf, requestOf, formOf};
@@ -42,7 +42,7 @@ fn mixes(q: Request, b: u64, info: u64, at: u64) -> bool
 
 // The finished form of block b. Only a piece that an end of the range cuts can become mixed.
 pub fn even_form(edit: Edit, words: &[Word], e: Entry, b: u64, info: u64) -> Form
-    requires { ⌜ (b < BLOCKS) × Fair (edit .q) × Good (frameOf (edit .f) (now words)) (now words) (entryOf e) × (info < INFO) × Even (frameOf (edit .f) (now words)) (now words) (entryOf e) b info ⌝ }
+    requires { ⌜ (b < MAX-BLOCKS) × Fair (edit .q) × Good (frameOf (edit .f) (now words)) (now words) (entryOf e) × (info < PIECE-INFO) × Even (frameOf (edit .f) (now words)) (now words) (entryOf e) b info ⌝ }
     ensures { λ r. ⌜ formOf r ≡ formIn (frameOf (edit .f) (now (words .entry))) (now (words .entry)) (requestOf (edit .q)) false 0 (entryOf e) b ⌝ }
 {
     let first = edit.q.start.0 / PAGE_BYTES;

@@ -24,7 +24,7 @@ ghost use mathlib.Core.Bool.{false, _&&_};
 ghost use lib.Dec.{eqb};
 ghost use Prim.Native.Nat.{_+_, _*_, _/_, _%_, _≤_, _<_};
 ghost use Rattle.types.specs.Range.{Fair};
-ghost use Rattle.table.specs.Board.{PIECEBYTES, frameOf};
+ghost use Rattle.table.specs.Board.{PIECE-BYTES, frameOf};
 ghost use Rattle.shapes.specs.Blocks.{GibIs, Ranged, wholePages};
 ghost use Rattle.model.specs.Forms.{formIn, gibFirst, gibIsOne};
 ghost use Rattle.model.specs.Frame.{blocks};
@@ -126,7 +126,7 @@ fn block_new_pages(edit: Edit, words: &[Word], b: u64) -> u64
 
 // The range begins and ends between pieces.
 fn whole_pieces(q: Request) -> bool
-    ensures { λ r. ⌜ r ≡ (eqb (q .start .0 % PIECEBYTES) 0 && eqb (q .size % PIECEBYTES) 0) ⌝ }
+    ensures { λ r. ⌜ r ≡ (eqb (q .start .0 % PIECE-BYTES) 0 && eqb (q .size % PIECE-BYTES) 0) ⌝ }
 {
     (q.start.0 % PIECE_BYTES == 0) & (q.size % PIECE_BYTES == 0)
 }

@@ -23,7 +23,7 @@ ghost use Prim.Native.Nat.{_+_, _*_, _≤_, _<_};
 ghost use lib.Dec.{eqb};
 ghost use lib.ListN.{length, getD};
 ghost use Rattle.types.specs.Range.{Fair, Lies};
-ghost use Rattle.table.specs.Board.{BLOCKS, WORDS, FIELDS, PIECES, PIECE, ROW, frameOf};
+ghost use Rattle.table.specs.Board.{MAX-BLOCKS, PAGE-WORDS, FIELDS, PIECES, PIECE-PAGES, PIECE-WORDS, frameOf};
 ghost use Rattle.shapes.specs.Blocks.{PieceIs};
 ghost use Rattle.model.specs.Forms.{allAre, afterIn};
 ghost use Rattle.model.specs.Numbers.{every};
@@ -32,8 +32,8 @@ ghost use Rattle.shapes.specs.Rooted.{Good};
 
 // The L1 entries of a piece, from entry i of block b on, are all of permission p, once the edit is whole.
 fn words_are(edit: Edit, words: &[Word], e: Entry, b: u64, i: u64, p: u64) -> bool
-    requires { ⌜ (b < BLOCKS) × (i + ROW ≤ WORDS) × (p < 4) × Fair (edit .q) × Good (frameOf (edit .f) (now words)) (now words) (entryOf e) ⌝ }
-    ensures { λ r. ⌜ r ≡ allAre (frameOf (edit .f) (now (words .entry))) (now (words .entry)) (requestOf (edit .q)) (entryOf e) p PIECE (b * blockPages + i * FIELDS) ⌝ }
+    requires { ⌜ (b < MAX-BLOCKS) × (i + PIECE-WORDS ≤ PAGE-WORDS) × (p < 4) × Fair (edit .q) × Good (frameOf (edit .f) (now words)) (now words) (entryOf e) ⌝ }
+    ensures { λ r. ⌜ r ≡ allAre (frameOf (edit .f) (now (words .entry))) (now (words .entry)) (requestOf (edit .q)) (entryOf e) p PIECE-PAGES (b * blockPages + i * FIELDS) ⌝ }
 {
     let want = spread(p);
     for j in 0..PIECE_WORDS {
@@ -46,8 +46,8 @@ fn words_are(edit: Edit, words: &[Word], e: Entry, b: u64, i: u64, p: u64) -> bo
 
 // The words of a piece, from at on, are all want.
 fn same_words(words: &[Word], at: usize, want: Word) -> bool
-    requires { ⌜ at + ROW ≤ length (now words) ⌝ }
-    ensures { λ r. ⌜ r ≡ every (λ k. eqb (getD (now (words .entry)) k 0) want) ROW at ⌝ }
+    requires { ⌜ at + PIECE-WORDS ≤ length (now words) ⌝ }
+    ensures { λ r. ⌜ r ≡ every (λ k. eqb (getD (now (words .entry)) k 0) want) PIECE-WORDS at ⌝ }
 {
     for i in 0..PIECE_WORDS as usize {
         if words[at + i] != want {
@@ -59,8 +59,8 @@ fn same_words(words: &[Word], at: usize, want: Word) -> bool
 
 // Piece i of block b, outside the range.
 fn old_piece_is(edit: Edit, words: &[Word], e: Entry, b: u64, i: u64, p: u64) -> bool
-    requires { ⌜ (b < BLOCKS) × (i < PIECES) × (p < 4) × Fair (edit .q) × Good (frameOf (edit .f) (now words)) (now words) (entryOf e) × Lies (requestOf (edit .q)) (b * blockPages + i * PIECE) PIECE Place.Outside ⌝ }
-    ensures { λ r. ⌜ r ≡ allAre (frameOf (edit .f) (now (words .entry))) (now (words .entry)) (requestOf (edit .q)) (entryOf e) p PIECE (b * blockPages + i * PIECE) ⌝ }
+    requires { ⌜ (b < MAX-BLOCKS) × (i < PIECES) × (p < 4) × Fair (edit .q) × Good (frameOf (edit .f) (now words)) (now words) (entryOf e) × Lies (requestOf (edit .q)) (b * blockPages + i * PIECE-PAGES) PIECE-PAGES Place.Outside ⌝ }
+    ensures { λ r. ⌜ r ≡ allAre (frameOf (edit .f) (now (words .entry))) (now (words .entry)) (requestOf (edit .q)) (entryOf e) p PIECE-PAGES (b * blockPages + i * PIECE-PAGES) ⌝ }
 {
     match e {
         Entry::Flat(o) => o == p,
@@ -75,8 +75,8 @@ fn old_piece_is(edit: Edit, words: &[Word], e: Entry, b: u64, i: u64, p: u64) ->
 
 // Piece i of block b is all of permission p, once the edit is whole.
 fn piece_is(edit: Edit, words: &[Word], e: Entry, b: u64, i: u64, p: u64) -> bool
-    requires { ⌜ (b < BLOCKS) × (i < PIECES) × (p < 4) × Fair (edit .q) × Good (frameOf (edit .f) (now words)) (now words) (entryOf e) ⌝ }
-    ensures { λ r. ⌜ r ≡ allAre (frameOf (edit .f) (now (words .entry))) (now (words .entry)) (requestOf (edit .q)) (entryOf e) p PIECE (b * blockPages + i * PIECE) ⌝ }
+    requires { ⌜ (b < MAX-BLOCKS) × (i < PIECES) × (p < 4) × Fair (edit .q) × Good (frameOf (edit .f) (now words)) (now words) (entryOf e) ⌝ }
+    ensures { λ r. ⌜ r ≡ allAre (frameOf (edit .f) (now (words .entry))) (now (words .entry)) (requestOf (edit .q)) (entryOf e) p PIECE-PAGES (b * blockPages + i * PIECE-PAGES) ⌝ }
 {
     match lies(edit.q, b * BLOCK_PAGES + i * PIECE_PAGES, PIECE_PAGES) {
         Place::Inside => edit.q.permission == p,
@@ -87,7 +87,7 @@ fn piece_is(edit: Edit, words: &[Word], e: Entry, b: u64, i: u64, p: u64) -> boo
 
 // Block b is all of permission p, once the edit is whole: each of its pieces is.
 fn pieces_are(edit: Edit, words: &[Word], e: Entry, b: u64, p: u64) -> bool
-    requires { ⌜ (b < BLOCKS) × (p < 4) × Fair (edit .q) × Good (frameOf (edit .f) (now words)) (now words) (entryOf e) ⌝ }
+    requires { ⌜ (b < MAX-BLOCKS) × (p < 4) × Fair (edit .q) × Good (frameOf (edit .f) (now words)) (now words) (entryOf e) ⌝ }
     ensures { λ r. ⌜ r ≡ allAre (frameOf (edit .f) (now (words .entry))) (now (words .entry)) (requestOf (edit .q)) (entryOf e) p blockPages (b * blockPages) ⌝ }
 {
     for i in 0..PIECES {
@@ -100,7 +100,7 @@ fn pieces_are(edit: Edit, words: &[Word], e: Entry, b: u64, p: u64) -> bool
 
 // The same for a block outside the range: its entry says it, unless it has an L1 page.
 fn old_block_is(edit: Edit, words: &[Word], e: Entry, b: u64, p: u64) -> bool
-    requires { ⌜ (b < BLOCKS) × (p < 4) × Fair (edit .q) × Good (frameOf (edit .f) (now words)) (now words) (entryOf e) × Lies (requestOf (edit .q)) (b * blockPages) blockPages Place.Outside ⌝ }
+    requires { ⌜ (b < MAX-BLOCKS) × (p < 4) × Fair (edit .q) × Good (frameOf (edit .f) (now words)) (now words) (entryOf e) × Lies (requestOf (edit .q)) (b * blockPages) blockPages Place.Outside ⌝ }
     ensures { λ r. ⌜ r ≡ allAre (frameOf (edit .f) (now (words .entry))) (now (words .entry)) (requestOf (edit .q)) (entryOf e) p blockPages (b * blockPages) ⌝ }
 {
     match e {
@@ -113,7 +113,7 @@ fn old_block_is(edit: Edit, words: &[Word], e: Entry, b: u64, p: u64) -> bool
 
 // The same for any block.
 pub fn block_is(edit: Edit, words: &[Word], e: Entry, b: u64, p: u64) -> bool
-    requires { ⌜ (b < BLOCKS) × (p < 4) × Fair (edit .q) × Good (frameOf (edit .f) (now words)) (now words) (entryOf e) ⌝ }
+    requires { ⌜ (b < MAX-BLOCKS) × (p < 4) × Fair (edit .q) × Good (frameOf (edit .f) (now words)) (now words) (entryOf e) ⌝ }
     ensures { λ r. ⌜ r ≡ allAre (frameOf (edit .f) (now (words .entry))) (now (words .entry)) (requestOf (edit .q)) (entryOf e) p blockPages (b * blockPages) ⌝ }
 {
     match lies(edit.q, b * BLOCK_PAGES, BLOCK_PAGES) {
@@ -125,23 +125,23 @@ pub fn block_is(edit: Edit, words: &[Word], e: Entry, b: u64, p: u64) -> bool
 
 // The permission of the first page of piece i of block b, once the edit is whole.
 pub fn piece_first(edit: Edit, words: &[Word], e: Entry, b: u64, i: u64) -> u64
-    requires { ⌜ (b < BLOCKS) × (i < PIECES) × Fair (edit .q) × Good (frameOf (edit .f) (now words)) (now words) (entryOf e) ⌝ }
-    ensures { λ r. ⌜ (r ≡ afterIn (frameOf (edit .f) (now (words .entry))) (now (words .entry)) (requestOf (edit .q)) (entryOf e) (b * blockPages + i * PIECE)) × (r < 4) ⌝ }
+    requires { ⌜ (b < MAX-BLOCKS) × (i < PIECES) × Fair (edit .q) × Good (frameOf (edit .f) (now words)) (now words) (entryOf e) ⌝ }
+    ensures { λ r. ⌜ (r ≡ afterIn (frameOf (edit .f) (now (words .entry))) (now (words .entry)) (requestOf (edit .q)) (entryOf e) (b * blockPages + i * PIECE-PAGES)) × (r < 4) ⌝ }
 {
     wide(after_word(edit, words, e, b, i * PIECE_WORDS)) % FIELD_VALUES
 }
 
 // The same for a piece outside the range.
 fn old_first(edit: Edit, words: &[Word], e: Entry, b: u64, i: u64) -> u64
-    requires { ⌜ (b < BLOCKS) × (i < PIECES) × Fair (edit .q) × Good (frameOf (edit .f) (now words)) (now words) (entryOf e) × Lies (requestOf (edit .q)) (b * blockPages + i * PIECE) PIECE Place.Outside ⌝ }
-    ensures { λ r. ⌜ (r ≡ afterIn (frameOf (edit .f) (now (words .entry))) (now (words .entry)) (requestOf (edit .q)) (entryOf e) (b * blockPages + i * PIECE)) × (r < 4) ⌝ }
+    requires { ⌜ (b < MAX-BLOCKS) × (i < PIECES) × Fair (edit .q) × Good (frameOf (edit .f) (now words)) (now words) (entryOf e) × Lies (requestOf (edit .q)) (b * blockPages + i * PIECE-PAGES) PIECE-PAGES Place.Outside ⌝ }
+    ensures { λ r. ⌜ (r ≡ afterIn (frameOf (edit .f) (now (words .entry))) (now (words .entry)) (requestOf (edit .q)) (entryOf e) (b * blockPages + i * PIECE-PAGES)) × (r < 4) ⌝ }
 {
     wide(old_word(edit.f, words, e, i * PIECE_WORDS)) % FIELD_VALUES
 }
 
 // A piece outside the range: its permission, and whether it is all the piece's.
 fn old_piece(edit: Edit, words: &[Word], e: Entry, b: u64, i: u64) -> Piece
-    requires { ⌜ (b < BLOCKS) × (i < PIECES) × Fair (edit .q) × Good (frameOf (edit .f) (now words)) (now words) (entryOf e) × Lies (requestOf (edit .q)) (b * blockPages + i * PIECE) PIECE Place.Outside ⌝ }
+    requires { ⌜ (b < MAX-BLOCKS) × (i < PIECES) × Fair (edit .q) × Good (frameOf (edit .f) (now words)) (now words) (entryOf e) × Lies (requestOf (edit .q)) (b * blockPages + i * PIECE-PAGES) PIECE-PAGES Place.Outside ⌝ }
     ensures { λ r. ⌜ PieceIs (frameOf (edit .f) (now (words .entry))) (now (words .entry)) (requestOf (edit .q)) (entryOf e) b i r ⌝ }
 {
     let p = old_first(edit, words, e, b, i);
@@ -151,7 +151,7 @@ fn old_piece(edit: Edit, words: &[Word], e: Entry, b: u64, i: u64) -> Piece
 
 // A piece across an end of the range.
 fn cut_piece(edit: Edit, words: &[Word], e: Entry, b: u64, i: u64) -> Piece
-    requires { ⌜ (b < BLOCKS) × (i < PIECES) × Fair (edit .q) × Good (frameOf (edit .f) (now words)) (now words) (entryOf e) ⌝ }
+    requires { ⌜ (b < MAX-BLOCKS) × (i < PIECES) × Fair (edit .q) × Good (frameOf (edit .f) (now words)) (now words) (entryOf e) ⌝ }
     ensures { λ r. ⌜ PieceIs (frameOf (edit .f) (now (words .entry))) (now (words .entry)) (requestOf (edit .q)) (entryOf e) b i r ⌝ }
 {
     let p = piece_first(edit, words, e, b, i);
@@ -161,7 +161,7 @@ fn cut_piece(edit: Edit, words: &[Word], e: Entry, b: u64, i: u64) -> Piece
 
 // Piece i of block b, once the edit is whole: where it lies is asked once.
 pub fn piece_at(edit: Edit, words: &[Word], e: Entry, b: u64, i: u64) -> Piece
-    requires { ⌜ (b < BLOCKS) × (i < PIECES) × Fair (edit .q) × Good (frameOf (edit .f) (now words)) (now words) (entryOf e) ⌝ }
+    requires { ⌜ (b < MAX-BLOCKS) × (i < PIECES) × Fair (edit .q) × Good (frameOf (edit .f) (now words)) (now words) (entryOf e) ⌝ }
     ensures { λ r. ⌜ PieceIs (frameOf (edit .f) (now (words .entry))) (now (words .entry)) (requestOf (edit .q)) (entryOf e) b i r ⌝ }
 {
     match lies(edit.q, b * BLOCK_PAGES + i * PIECE_PAGES, PIECE_PAGES) {

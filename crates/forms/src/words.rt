@@ -21,7 +21,7 @@ use types::pages::lies;
 ghost use mathlib.Core.Path.{_≡_};
 ghost use Prim.Native.Nat.{_+_, _*_, _/_, _%_, _≤_, _<_, _^_};
 ghost use Rattle.types.specs.Range.{Fair};
-ghost use Rattle.table.specs.Board.{board, BLOCKS, WORDS, FIELDS, frameOf};
+ghost use Rattle.table.specs.Board.{board, MAX-BLOCKS, PAGE-WORDS, FIELDS, frameOf};
 ghost use Rattle.shapes.specs.Words.{spreadOf, oldWord, mixedAt};
 ghost use Rattle.model.specs.Forms.{l1Word};
 ghost use Rattle.model.specs.Numbers.{pack};
@@ -38,7 +38,7 @@ pub fn spread(p: u64) -> Word
 
 // L1 entry i of a block as it stands, or as the block's L2 entry gives it.
 pub fn old_word(f: Frame, words: &[Word], e: Entry, i: u64) -> Word
-    requires { ⌜ (i < WORDS) × Good (frameOf f (now words)) (now words) (entryOf e) ⌝ }
+    requires { ⌜ (i < PAGE-WORDS) × Good (frameOf f (now words)) (now words) (entryOf e) ⌝ }
     ensures { λ r. ⌜ r ≡ oldWord (frameOf f (now (words .entry))) (now (words .entry)) (entryOf e) i ⌝ }
 {
     match e {
@@ -75,7 +75,7 @@ fn mixed_word(q: Request, s: u64, old: Word) -> Word
 
 // L1 entry i of block b, once the edit is whole.
 pub fn after_word(edit: Edit, words: &[Word], e: Entry, b: u64, i: u64) -> Word
-    requires { ⌜ (b < BLOCKS) × (i < WORDS) × Fair (edit .q) × Good (frameOf (edit .f) (now words)) (now words) (entryOf e) ⌝ }
+    requires { ⌜ (b < MAX-BLOCKS) × (i < PAGE-WORDS) × Fair (edit .q) × Good (frameOf (edit .f) (now words)) (now words) (entryOf e) ⌝ }
     ensures { λ r. ⌜ r ≡ l1Word (frameOf (edit .f) (now (words .entry))) (now (words .entry)) (requestOf (edit .q)) (entryOf e) b i ⌝ }
 {
     let s = b * BLOCK_PAGES + i * FIELDS;

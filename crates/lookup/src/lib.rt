@@ -26,14 +26,14 @@ ghost use Rattle.model.specs.Frame.{boundsOk};
 ghost use Rattle.model.specs.Walk as walk;
 ghost use Rattle.model.specs.Access as access;
 ghost use Rattle.model.specs.Lookup as lookup;
-ghost use Rattle.table.specs.Board.{BLOCKS, frameOf};
+ghost use Rattle.table.specs.Board.{MAX-BLOCKS, frameOf};
 ghost use Rattle.types.specs.Views.{entryOf, foundOf, permissionNumber, needView, kindOf, causeNumber, privilegeOf, answerOf};
 ghost use Rattle.lookup.specs.Granted.{grantedOf};
 ghost use Rattle.table.specs.Bounds.{Small};
 
 // The first stage: L2 entry b of a root, decoded once. It says nothing where the root page is not lent.
 fn l2_entry(f: Frame, words: &[Word], root: PageNumber, b: u64) -> Entry
-    requires { ⌜ b < BLOCKS ⌝ }
+    requires { ⌜ b < MAX-BLOCKS ⌝ }
     ensures { λ r. ⌜ (entryOf r ≡ walk.entryAt (frameOf f (now (words .entry))) (now (words .entry)) (root .0) b) × Small (entryOf r) ⌝ }
 {
     if lent::is_lent(f, words.len(), root) {

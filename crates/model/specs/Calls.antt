@@ -1,5 +1,5 @@
 -- Open, close and edit: what each answers, and the memory, the slots and the fence that it leaves. (The lookup is in `Lookup`.)
-use mathlib.Core.Bool.{Bool, true, false, not, _&&_, _||_}
+use mathlib.Core.Bool.{Bool, not, _&&_, _||_}
 use mathlib.Core.List.{List, [], _∷_, headD}
 use Prim.Native.Nat.{ℕ, _+_, _*_, _%_, _^_}
 use lib.Dec.{eqb, ltb, leb}

@@ -2,20 +2,20 @@
 -- which is named there, or those of document 01 that say what they mean.
 use mathlib.Core.Path.{_≡_}
 use mathlib.Core.Logic.{_⊎_, _≢_}
-use mathlib.Core.Bool.{Bool, true, false}
-use mathlib.Core.List.{List, [], _∷_, _++_, List·Memᴰ}
+use mathlib.Core.Bool.{true}
+use mathlib.Core.List.{List, [], _∷_, List·Memᴰ}
 use Prim.Native.Nat.{ℕ, suc, _+_, _*_, _-_, _^_, _≤_, _<_}
 use lib.ListN.{length, take, getD}
 use Rattle.model.specs.Layout.{gibBlocks}
-use Rattle.model.specs.Entry.{Entry, flat, pieces, table, invalid, perm}
+use Rattle.model.specs.Entry.{Entry, flat, pieces, table, perm}
 use Rattle.model.specs.Frame.{Frame, pageOf, blocks}
 use Rattle.model.specs.Walk.{entryAt, walk}
-use Rattle.model.specs.Access.{Kind, Answer}
+use Rattle.model.specs.Access.{Kind}
 use Rattle.model.specs.Lookup.{reads}
 use Rattle.model.specs.Sound.{Slot, openRegisters, roots, sound, freePages}
 use Rattle.model.specs.Forms.{Request, Form, wantFlat, wantPieces, wantTable, firstGib, forms}
-use Rattle.model.specs.Stores.{Store, apply}
-use Rattle.model.specs.Calls.{Outcome, registerFor, rootOf, editRefusal, storeList, editSlot}
+use Rattle.model.specs.Stores.{apply}
+use Rattle.model.specs.Calls.{registerFor, rootOf, editRefusal, storeList, editSlot}
 
 -- What the types of the code say, and nothing more: an entry has so many bits (64 on RV64), and there are four permissions
 pub record Typed (F : Frame) (q : Request) (m : List ℕ) : Type 0 where

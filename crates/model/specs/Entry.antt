@@ -1,6 +1,6 @@
 -- Entries of the tables: what a word says, and the word that says it.
 -- A permission is a number, as the tables hold it: 0 none, 1 rx, 2 rw, 3 rwx.
-use mathlib.Core.Bool.{Bool, true, false, not}
+use mathlib.Core.Bool.{Bool, not}
 use Prim.Native.Nat.{ℕ, _+_, _*_, _/_, _%_, _^_}
 use lib.Dec.{eqb, ltb}
 use Rattle.model.specs.Numbers.{if_then_else_, every, digit}

@@ -1,5 +1,4 @@
 -- The walk: from a root page and the page number of an address to what stands there.
-use mathlib.Core.Bool.{Bool, true, false}
 use mathlib.Core.List.{List, [], _∷_}
 use Prim.Native.Nat.{ℕ, _/_, _%_}
 use lib.Dec.{ltb}

@@ -9,7 +9,7 @@ use mathlib.Core.Path.{_≡_, refl, sym, ap, ap₂, _∙_, subst}
 use mathlib.Core.Logic.{inl, inr}
 use mathlib.Core.Bool.{Bool, true, false, false≢true}
 use mathlib.Core.List.{List, [], _∷_, _++_}
-use Prim.Native.Nat.{ℕ, zero, suc, _/_, _<_, _≤_, _^_}
+use Prim.Native.Nat.{ℕ, zero, suc, _<_, _≤_}
 use native.Mathlib.Omega.{arith}
 use borrow.Author.Tests.{eqb-true, eqb-false, leb-true}
 use Rattle.laws.proofs.Choices.{split}
@@ -33,7 +33,7 @@ use Rattle.slots.specs.declared.Outcome.{Outcome}
 use Rattle.types.specs.declared.Reply.{Reply}
 use Rattle.types.specs.declared.Reply.the-variants.{Refused, Opened, Closed, Edited}
 use Rattle.monitor.specs.Promise.{Reaches, Call, CrashConsistent, Ending, Kept, Recovers, interrupted, request, reset, returned}
-use Rattle.table.specs.Board.{board, WORDS, ENTRY, frameOf, frameOver}
+use Rattle.table.specs.Board.{board, ENTRY-VALUES, frameOf, frameOver}
 use Rattle.range.proofs.Lawful.{board-lawful}
 
 -- the parts of an answer
@@ -73,7 +73,7 @@ taken-fewer zero l = omega arith
 taken-fewer (suc n) [] = omega arith
 taken-fewer (suc n) (x ∷ xs) = omega (arith, taken-fewer n xs)
 
-module _ (f : Frame) (slots : List ℕ) (slot start size : ℕ) (permission : Permission) (m : List ℕ) (words : (i : ℕ) → getD m i 0 < ENTRY) where
+module _ (f : Frame) (slots : List ℕ) (slot start size : ℕ) (permission : Permission) (m : List ℕ) (words : (i : ℕ) → getD m i 0 < ENTRY-VALUES) where
   abbrev F : Frames.Frame
   F = frameOf f m
 

@@ -8,7 +8,7 @@ use lib.Dec.{eqb}
 use borrow.Author.Tests.{ne-eqb}
 use Rattle.model.specs.Numbers.{if_then_else_}
 use Rattle.model.specs.Frame.{Frame, frameOk}
-use Rattle.model.specs.Sound.{Slot, roots, used, sound}
+use Rattle.model.specs.Sound.{Slot, sound}
 use Rattle.model.specs.Calls.{Outcome, firstMet, refuse}
 use Rattle.types.specs.declared.Admission.{Admission}
 use Rattle.types.specs.declared.Admission.the-variants.{Granted, Refused}
@@ -16,7 +16,6 @@ use Rattle.types.specs.declared.Refusal.{Refusal}
 use Rattle.types.specs.declared.Refusal.the-variants as refusal
 use Rattle.types.specs.Views.{refusalNumber}
 use Rattle.laws.proofs.Frames.{framed, bounds}
-use Rattle.scan.specs.Scan.{marksOf}
 use Rattle.scan.specs.Admission.{admissionOf, AdmissionIs, Admitted}
 use Rattle.scan.proofs.Laws.{clear-is-free}
 

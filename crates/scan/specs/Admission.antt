@@ -1,6 +1,6 @@
 -- What each call but a lookup asks first, and what stands once neither refusal fits.
 use mathlib.Core.Path.{_≡_}
-use mathlib.Core.Bool.{Bool, true, false}
+use mathlib.Core.Bool.{Bool, true}
 use mathlib.Core.List.{List}
 use Prim.Native.Nat.{ℕ}
 use Rattle.model.specs.Numbers.{if_then_else_}

@@ -10,7 +10,7 @@ use Rattle.model.specs.Register.{ppnOf, wpriOf, sdidOf, modeOf}
 use Rattle.model.specs.Entry.{Entry, flat, pieces, table, invalid, decode}
 use Rattle.model.specs.Frame.{Frame, blocks, lent}
 use Rattle.model.specs.Walk.{entryAt}
-use Rattle.model.specs.Sound.{Slot, register, isOpen, roots, used, cleanPage, sound}
+use Rattle.model.specs.Sound.{Slot, register, isOpen, cleanPage, sound}
 
 -- not sound, or the marks so far
 pub data Scan : Type 0 where

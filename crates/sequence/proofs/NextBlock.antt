@@ -10,7 +10,6 @@ use lib.ListN.{length, drop, length-append, length-drop}
 use Rattle.laws.proofs.Choices.{split}
 use Rattle.laws.proofs.Fronts.{drop-tail}
 use Rattle.laws.proofs.Times.{head-times}
-use Rattle.model.specs.Entry.{Entry}
 use Rattle.model.specs.Forms.{Request, Form, after, formIn, formsIn, gibIsOne, firstGib, gibs}
 use Rattle.model.specs.Frame.{Frame, blocks}
 use Rattle.model.specs.Layout.{gibBlocks}

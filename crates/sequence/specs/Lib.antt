@@ -1,6 +1,6 @@
 --   Blocks      what the contracts ask of a block and of an accepted edit
 --   GibBlocks   several blocks of one GiB, stored at once
---   Made        what an edit that no refusal fits answers
+--   StoresMade  what an edit that no refusal fits answers
 pub mod Blocks
 pub mod GibBlocks
-pub mod Made
+pub mod StoresMade

@@ -5,18 +5,18 @@ use Prim.Native.Nat.{ℕ, _+_, _≤_, _<_}
 use lib.ListN.{set}
 use Rattle.shapes.proofs.SlotLaws as laws
 use Rattle.slots.specs.Zeroed.{zeroed}
-use Rattle.table.specs.Board.{WORDS}
+use Rattle.table.specs.Board.{PAGE-WORDS}
 
 -- the words from word i of the page on
 abbrev pub left : List ℕ → ℕ → ℕ → List ℕ
-left = laws.zeroRest WORDS
+left = laws.zeroRest PAGE-WORDS
 
 pub left-all : (m : List ℕ) (at : ℕ) → zeroed m at ≡ left m at 0
 unfolding zeroed
-left-all = laws.rest-all WORDS
+left-all = laws.rest-all PAGE-WORDS
 
-pub left-next : (m : List ℕ) (at i : ℕ) → i < WORDS → left m at i ≡ left (set m (at + i) 0) at (i + 1)
-left-next = laws.rest-next WORDS
+pub left-next : (m : List ℕ) (at i : ℕ) → i < PAGE-WORDS → left m at i ≡ left (set m (at + i) 0) at (i + 1)
+left-next = laws.rest-next PAGE-WORDS
 
-pub left-none : (m : List ℕ) (at i : ℕ) → WORDS ≤ i → left m at i ≡ m
-left-none = laws.rest-none WORDS
+pub left-none : (m : List ℕ) (at i : ℕ) → PAGE-WORDS ≤ i → left m at i ≡ m
+left-none = laws.rest-none PAGE-WORDS

@@ -3,8 +3,8 @@ use mathlib.Core.List.{List}
 use Prim.Native.Nat.{ℕ}
 use lib.ListN.{replicate}
 use lib.Seq.{sets}
-use Rattle.table.specs.Board.{WORDS}
+use Rattle.table.specs.Board.{PAGE-WORDS}
 
 -- the 512 words from at are zero
 unfoldable pub zeroed : List ℕ → ℕ → List ℕ
-zeroed m at = sets m at (replicate WORDS 0)
+zeroed m at = sets m at (replicate PAGE-WORDS 0)

@@ -6,11 +6,11 @@ ghost use mathlib.Core.Path.{_≡_};
 ghost use Prim.Native.Nat.{_+_, _≤_};
 ghost use lib.ListN.{length};
 ghost use Rattle.slots.specs.Zeroed.{zeroed};
-ghost use Rattle.table.specs.Board.{WORDS};
+ghost use Rattle.table.specs.Board.{PAGE-WORDS};
 
 // The 512 words from at, one store each.
 pub fn zero_page(words: &mut [Word], at: usize)
-    requires { ⌜ at + WORDS ≤ length (now words) ⌝ }
+    requires { ⌜ at + PAGE-WORDS ≤ length (now words) ⌝ }
     ensures { λ r. ⌜ now (words .exit) ≡ zeroed (now (words .entry)) at ⌝ }
 {
     for i in 0..PAGE_WORDS {

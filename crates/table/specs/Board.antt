@@ -9,9 +9,9 @@ use Rattle.types.specs.declared.Frame.{Frame}
 abbrev pub board : Layout
 board = rv64
 
--- its numbers by short names: entries of a page, fields of an entry, pieces of a block, pages of a piece, entries of a piece
-abbrev pub WORDS : ℕ
-WORDS = board .words
+-- its numbers, by the names of board.rt: entries of a page, fields of an entry, pieces of a block, pages of a piece, entries of a piece
+abbrev pub PAGE-WORDS : ℕ
+PAGE-WORDS = board .words
 
 abbrev pub FIELDS : ℕ
 FIELDS = board .fields
@@ -19,40 +19,40 @@ FIELDS = board .fields
 abbrev pub PIECES : ℕ
 PIECES = board .pieces
 
-abbrev pub PIECE : ℕ
-PIECE = piecePages board
+abbrev pub PIECE-PAGES : ℕ
+PIECE-PAGES = piecePages board
 
-abbrev pub PIECEBYTES : ℕ
-PIECEBYTES = piecePages board * pageBytes
+abbrev pub PIECE-BYTES : ℕ
+PIECE-BYTES = piecePages board * pageBytes
 
-abbrev pub ROW : ℕ
-ROW = board .words / board .pieces
+abbrev pub PIECE-WORDS : ℕ
+PIECE-WORDS = board .words / board .pieces
 
 -- blocks of the widest address space
-abbrev pub BLOCKS : ℕ
-BLOCKS = 2 ^ (board .maxPaw - 25)
+abbrev pub MAX-BLOCKS : ℕ
+MAX-BLOCKS = 2 ^ (board .maxPaw - 25)
 
 -- an entry is below this, and the INFO of a block by pieces below that
-abbrev pub ENTRY : ℕ
-ENTRY = 16 ^ board .fields
+abbrev pub ENTRY-VALUES : ℕ
+ENTRY-VALUES = 16 ^ board .fields
 
-abbrev pub INFO : ℕ
-INFO = 4 ^ board .pieces
+abbrev pub PIECE-INFO : ℕ
+PIECE-INFO = 4 ^ board .pieces
 
 -- where TYPE begins
-abbrev pub TYPEUNIT : ℕ
-TYPEUNIT = 2 ^ board .infoBits
+abbrev pub TYPE-UNIT : ℕ
+TYPE-UNIT = 2 ^ board .infoBits
 
 -- the entry by pieces whose INFO is zero
-abbrev pub PIECEENTRY : ℕ
-PIECEENTRY = board .pieceType * 2 ^ board .infoBits
+abbrev pub PIECE-ENTRY : ℕ
+PIECE-ENTRY = board .pieceType * 2 ^ board .infoBits
 
 -- 1 in each field, and in each piece
-abbrev pub EACH : ℕ
-EACH = 0x1111_1111_1111_1111
+abbrev pub EACH-FIELD : ℕ
+EACH-FIELD = 0x1111_1111_1111_1111
 
-abbrev pub EACHPIECE : ℕ
-EACHPIECE = 0x5555_5555
+abbrev pub EACH-PIECE : ℕ
+EACH-PIECE = 0x5555_5555
 
 -- a frame of this board: from its numbers; beside n lent words; and beside the words themselves
 abbrev pub boardFrame : ℕ → ℕ → ℕ → frame.Frame

@@ -31,21 +31,21 @@ pub const PIECE_TYPE: u64 = 6;
 pub const TABLE_TYPE: u64 = 4;
 
 // An L2 entry: where TYPE begins, bit 44, and the bound of the pieces' permissions, bit 32.
-pub const TYPE: u64 = 0x1000_0000_0000;
+pub const TYPE_UNIT: u64 = 0x1000_0000_0000;
 
 pub const PIECE_INFO: u64 = 0x1_0000_0000;
 
 // Entries whose INFO is zero: one that names an L1 page, and one by pieces.
-pub const TABLE_ENTRY: u64 = TABLE_TYPE * TYPE;
+pub const TABLE_ENTRY: u64 = TABLE_TYPE * TYPE_UNIT;
 
-pub const PIECE_ENTRY: u64 = PIECE_TYPE * TYPE;
+pub const PIECE_ENTRY: u64 = PIECE_TYPE * TYPE_UNIT;
 
 // A register: where WPRI, SDID and MODE begin, bits 44, 54 and 60; and how many values WPRI has.
-pub const WPRI: u64 = 0x1000_0000_0000;
+pub const WPRI_UNIT: u64 = 0x1000_0000_0000;
 
-pub const SDID: u64 = 0x40_0000_0000_0000;
+pub const SDID_UNIT: u64 = 0x40_0000_0000_0000;
 
-pub const MODE: u64 = 0x1000_0000_0000_0000;
+pub const MODE_UNIT: u64 = 0x1000_0000_0000_0000;
 
 pub const WPRI_VALUES: u64 = 1024;
 

@@ -11,7 +11,7 @@ ghost use mathlib.Core.Bool.{true};
 ghost use Prim.Native.Nat.{_+_, _-_, _≤_, _^_};
 ghost use lib.ListN.{length};
 ghost use Rattle.model.specs.Frame as frame;
-ghost use Rattle.table.specs.Board.{board, BLOCKS, frameOf, frameOver};
+ghost use Rattle.table.specs.Board.{board, MAX-BLOCKS, frameOf, frameOver};
 
 // "PAW (30 to 34), lent table memory of 2 to 256 whole pages"
 const MIN_PAW: u64 = 30;
@@ -50,7 +50,7 @@ pub fn frame_ok(f: Frame, words: &[Word]) -> bool
 // "The first 2^(PAW-25) entries": the blocks of the address space.
 pub fn block_count(f: Frame, n: usize) -> usize
     requires { ⌜ frame.boundsOk (frameOver f n) ≡ true ⌝ }
-    ensures { λ r. ⌜ (r ≡ frame.blocks (frameOver f n)) × (r ≤ BLOCKS) ⌝ }
+    ensures { λ r. ⌜ (r ≡ frame.blocks (frameOver f n)) × (r ≤ MAX-BLOCKS) ⌝ }
 {
     pow2(f.paw - 25) as usize
 }

@@ -1,7 +1,7 @@
 // The register mmpt: PPN, WPRI, SDID, MODE.
-use crate::board::MODE;
-use crate::board::SDID;
-use crate::board::WPRI;
+use crate::board::MODE_UNIT;
+use crate::board::SDID_UNIT;
+use crate::board::WPRI_UNIT;
 use crate::board::WPRI_VALUES;
 use crate::board::Word;
 use crate::board::narrow;
@@ -16,25 +16,25 @@ ghost use Rattle.model.specs.Register.{ppnOf, wpriOf, sdidOf, modeOf, registerO
 pub fn ppn(register: Word) -> PageNumber
     ensures { λ r. ⌜ (r .0 ≡ ppnOf board register) × (r .0 < 2 ^ board .infoBits) ⌝ }
 {
-    PageNumber(wide(register) % WPRI)
+    PageNumber(wide(register) % WPRI_UNIT)
 }
 
 pub fn wpri(register: Word) -> u64
     ensures { λ r. ⌜ (r ≡ wpriOf board register) × (r < 2 ^ board .wpriBits) ⌝ }
 {
-    wide(register) / WPRI % WPRI_VALUES
+    wide(register) / WPRI_UNIT % WPRI_VALUES
 }
 
 pub fn sdid(register: Word) -> Sdid
     ensures { λ r. ⌜ (r .0 ≡ sdidOf board register) × (r .0 < 64) ⌝ }
 {
-    Sdid(wide(register) / SDID % 64)
+    Sdid(wide(register) / SDID_UNIT % 64)
 }
 
 pub fn mode(register: Word) -> u64
     ensures { λ r. ⌜ (r ≡ modeOf board register) × (r < 16) ⌝ }
 {
-    wide(register) / MODE
+    wide(register) / MODE_UNIT
 }
 
 // "MODE 1, that SDID and that page, WPRI zero"
@@ -42,7 +42,7 @@ pub fn new(sdid: Sdid, root: PageNumber) -> Word
     requires { ⌜ (sdid .0 < 64) × (root .0 < 2 ^ board .infoBits) ⌝ }
     ensures { λ r. ⌜ r ≡ registerOf board (sdid .0) (root .0) ⌝ }
 {
-    narrow(MODE + sdid.0 * SDID + root.0)
+    narrow(MODE_UNIT + sdid.0 * SDID_UNIT + root.0)
 }
 
 // "MODE 0 is Bare"

@@ -2,7 +2,7 @@
 use crate::board::PIECE_INFO;
 use crate::board::PIECE_TYPE;
 use crate::board::TABLE_TYPE;
-use crate::board::TYPE;
+use crate::board::TYPE_UNIT;
 use crate::board::Word;
 use types::Entry;
 use types::Found;
@@ -30,8 +30,8 @@ pub fn decode(word: Word) -> Entry
     ensures { λ r. ⌜ (entryOf r ≡ entry.decode board word) × Small (entryOf r) ⌝ }
 {
     let number = word as u64;
-    let info = number % TYPE;
-    let kind = number / TYPE;
+    let info = number % TYPE_UNIT;
+    let kind = number / TYPE_UNIT;
     if kind < PERMISSIONS {
         if info == 0 {
             return Entry::Flat(kind);

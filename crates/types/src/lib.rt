@@ -188,7 +188,7 @@ pub struct RowProgress {
 }
 
 // How some blocks went, the next new page, and how many blocks it was.
-pub struct Step {
+pub struct BlocksProgress {
     pub left: Budget,
     pub next: u64,
     pub count: u64,
@@ -196,7 +196,7 @@ pub struct Step {
 }
 
 // What an edit answers: how many stores it made, whether that was all, and the fence.
-pub struct Made {
+pub struct StoresMade {
     pub count: u64,
     pub fence: Fence,
     pub all: bool,

@@ -8,7 +8,7 @@ use Rattle.api.specs.CallWords.{soundWord}
 use Rattle.scan.proofs.Admissions.{numberOf, admission-number}
 use Rattle.api.proofs.mpt_sound.Statement.{statement}
 use Rattle.api.proofs.mpt_sound.Tie as tie
-use Rattle.table.specs.Board.{boardFrame, WORDS}
+use Rattle.table.specs.Board.{boardFrame, PAGE-WORDS}
 
 no-pages-requires : tie.Need-no-pages-requires
 no-pages-requires c κs = search needs
@@ -27,7 +27,7 @@ enum-told c = search needs
 
 -- the number of the admission
 says : (c : tie.After-admit) → let a = c .before .before .before .before .before .args in
-    numberOf (c .admit .result) ≡ soundWord (boardFrame (a .paw) (a .first) (length (now (a .words)) / WORDS)) (now (a .words)) (now (a .slots))
+    numberOf (c .admit .result) ≡ soundWord (boardFrame (a .paw) (a .first) (length (now (a .words)) / PAGE-WORDS)) (now (a .words)) (now (a .slots))
 unfolding soundWord
 says c = ap numberOf (c .admit .ensures .answer) ∙ admission-number _ _ _
 

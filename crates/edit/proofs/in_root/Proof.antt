@@ -1,9 +1,9 @@
 -- `edit::in_root` meets its contract: the entries of a root lie in one run of words, so a word is one of them if it lies between its two ends.
-use mathlib.Core.Path.{_≡_, refl, sym, ap, ap₂, _∙_}
+use mathlib.Core.Path.{ap, ap₂, _∙_}
 use Prim.Native.Nat.{ℕ, _+_, _-_, _≤_, _<_, _^_}
 use native.Mathlib.Omega.{arith}
 use lib.Dec.{ltb}
-use borrow.Author.Tests.{le-leb, lt-leb, lt-ltb}
+use borrow.Author.Tests.{le-leb, lt-leb}
 use borrow.Author.Needs.{needs}
 use Rattle.shapes.proofs.Fields.{index-add}
 use Rattle.model.specs.Fence.{inRoot}

@@ -1,19 +1,18 @@
 -- `edit::make` meets its contract: all stores were made, or the limit cut them; the count, the fence and the memory follow from that.
-use mathlib.Core.Path.{_≡_, refl, sym, ap, ap₂, _∙_, subst}
-use mathlib.Core.Bool.{Bool, true, false}
+use mathlib.Core.Path.{_≡_, sym, ap, _∙_, subst}
+use mathlib.Core.Bool.{true, false}
 use mathlib.Core.List.{List}
-use Prim.Native.Nat.{ℕ, _+_, _-_, _≤_, _<_}
+use Prim.Native.Nat.{_-_}
 use native.Mathlib.Omega.{arith}
-use lib.ListN.{length}
 use Rattle.model.specs.Frame.{Frame, lent, boundsOk}
 use borrow.Author.Needs.{needs}
 use Rattle.sequence.proofs.Answers.{all-fits, all-memory, all-count, all-true, all-fence, cut-memory, cut-count, cut-false, cut-fence}
 use Rattle.forms.proofs.BoardShape.{board-shape}
 use Rattle.sequence.proofs.Facts.{root-lent, bounds-in}
 use Rattle.shapes.proofs.Runs.{out-whole, out-cut}
-use Rattle.sequence.specs.Made.{fenceAfter}
-use Rattle.sequence.specs.Blocks.{wholeList, Prepared}
-use Rattle.shapes.specs.Run.{allMade, limitReached, out, run}
+use Rattle.sequence.specs.StoresMade.{fenceAfter}
+use Rattle.sequence.specs.Blocks.{wholeList}
+use Rattle.shapes.specs.Run.{allMade, limitReached, run}
 use Rattle.model.specs.Stores.{Store}
 use Rattle.types.specs.Views.{fenceOf, requestOf, freeList}
 use Rattle.edit.proofs.make.Statement.{statement}
@@ -41,8 +40,8 @@ sub-count c =
     let r = c .before .before .before .before .before .store-range in
     omega (arith, all-fits (frameOf (a .edit .f) (a .words .now)) (requestOf (a .edit .q)) (a .edit .root .0) (a .sdid .0) (wholeList (frameOf (a .edit .f) (a .words .now)) (a .words .now) (requestOf (a .edit .q)) (a .edit .root .0) (freeList (a .free))) (a .limit) (a .words .now) (r .result .left) (r .last .1 .0) (all-made c))
 
-fence-of-requires : tie.Need-fence-of-requires
-fence-of-requires c κs =
+fence-after-requires : tie.Need-fence-after-requires
+fence-after-requires c κs =
     let s = c .before .before .before .before .before .before .before .before .before in
     let r = c .before .before .before .before .before .before .store-range in
     let back : (X : Frame → Type 0) → X (frameOf (s .args .edit .f) (s .args .words .now)) → X (frameOf (s .args .edit .f) (r .last .1 .0))
@@ -66,12 +65,12 @@ returns c =
       count = all-count F (requestOf (a .edit .q)) (a .edit .root .0) (a .sdid .0) list (a .limit) (a .words .now) (r .result .left) (r .last .1 .0) (all-made b);
       all = all-true F (requestOf (a .edit .q)) (a .edit .root .0) (a .sdid .0) list (a .limit) (a .words .now) (r .result .left) (r .last .1 .0) (all-made b);
       fence =
-          subst (λ (X : Frame). fenceOf (c .fence-of .result) ≡ fenceAfter X (requestOf (a .edit .q)) (a .edit .root .0) (a .sdid .0) (a .limit - r .result .left .more) true (r .result .left .last)) (ap (frameOver (a .edit .f)) (r .kept .1 .0)) (c .fence-of .ensures)
+          subst (λ (X : Frame). fenceOf (c .fence-after .result) ≡ fenceAfter X (requestOf (a .edit .q)) (a .edit .root .0) (a .sdid .0) (a .limit - r .result .left .more) true (r .result .left .last)) (ap (frameOver (a .edit .f)) (r .kept .1 .0)) (c .fence-after .ensures)
           ∙ all-fence F (requestOf (a .edit .q)) (a .edit .root .0) (a .sdid .0) list (a .limit) (a .words .now) (r .result .left) (r .last .1 .0) (all-made b);
     }
 
-fence-of-requires-2 : tie.Need-fence-of-requires-2
-fence-of-requires-2 c κs =
+fence-after-requires-2 : tie.Need-fence-after-requires-2
+fence-after-requires-2 c κs =
     let s = c .before .before .before .before .before .before .before .before in
     let r = c .before .before .before .before .before .store-range in
     let back : (X : Frame → Type 0) → X (frameOf (s .args .edit .f) (s .args .words .now)) → X (frameOf (s .args .edit .f) (r .last .1 .0))
@@ -95,7 +94,7 @@ returns-2 c =
       count = cut-count F (requestOf (a .edit .q)) (a .edit .root .0) (a .sdid .0) list (a .limit) (a .words .now) (r .last .1 .0) (was-cut b);
       all = cut-false F (requestOf (a .edit .q)) (a .edit .root .0) (a .sdid .0) list (a .limit) (a .words .now) (r .last .1 .0) (was-cut b);
       fence =
-          subst (λ (X : Frame). fenceOf (c .fence-of2 .result) ≡ fenceAfter X (requestOf (a .edit .q)) (a .edit .root .0) (a .sdid .0) (a .limit) false 0) (ap (frameOver (a .edit .f)) (r .kept .1 .0)) (c .fence-of2 .ensures)
+          subst (λ (X : Frame). fenceOf (c .fence-after2 .result) ≡ fenceAfter X (requestOf (a .edit .q)) (a .edit .root .0) (a .sdid .0) (a .limit) false 0) (ap (frameOver (a .edit .f)) (r .kept .1 .0)) (c .fence-after2 .ensures)
           ∙ cut-fence F (requestOf (a .edit .q)) (a .edit .root .0) (a .sdid .0) list (a .limit) (a .words .now) (r .last .1 .0) (was-cut b);
     }
 
@@ -105,9 +104,9 @@ make-spec =
     (tie.spec
     store-range-requires
     sub-count
-    fence-of-requires
+    fence-after-requires
     same-length
     returns
-    fence-of-requires-2
+    fence-after-requires-2
     same-length-2
     returns-2)

@@ -3,16 +3,13 @@
 use mathlib.Core.List.{List}
 use Rattle.types.specs.declared.Frame.{Frame}
 use Rattle.types.specs.declared.Request as code
-use mathlib.Core.Path.{_≡_, refl, sym, ap, ap₂, _∙_, subst}
-use mathlib.Core.Bool.{Bool, true, false}
-use Prim.Native.Nat.{ℕ, _+_, _-_, _*_, _/_, _≤_, _<_}
+use mathlib.Core.Path.{refl, sym, _∙_}
+use Prim.Native.Nat.{ℕ, _-_}
 use native.Mathlib.Omega.{arith}
 use borrow.Author.Tests.{not-true, not-false}
-use lib.ListN.{length}
 use Rattle.sequence.proofs.Facts.{Facts, facts}
 use Rattle.sequence.proofs.LoopInvariant.{LoopInvariant, invariant-start, invariant-rooted, invariant-room, invariant-flag, invariant-new-page, invariant-ahead, invariant-cut, invariant-next, invariant-end, invariant-length}
 use Rattle.shapes.proofs.Runs.{out-whole, out-cut}
-use Rattle.types.specs.declared.Gib.{Gib}
 use Rattle.types.specs.Range.{Fair}
 use Rattle.edit.proofs.store_range.Statement.{statement}
 use Rattle.types.specs.Views.{requestOf, freeList}

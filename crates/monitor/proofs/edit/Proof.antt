@@ -1,22 +1,17 @@
 -- `monitor::edit` meets its contract: the refusals of frame, table and slot in their order, and then those of the range and the stores.
-use mathlib.Core.Path.{_≡_, sym, ap, _∙_}
-use mathlib.Core.Bool.{true, false}
+use mathlib.Core.Path.{sym, ap, _∙_}
 use mathlib.Core.List.{List}
 use Prim.Native.Nat.{ℕ}
 use lib.Dec.{lit≤}
 use denote.Ref.{now}
-use borrow.Author.Tests.{not-true, not-false}
 use borrow.Author.Needs.{needs}
-use Rattle.model.specs.Frame.{Frame, frameOk}
+use Rattle.model.specs.Frame.{Frame}
 use Rattle.model.specs.Sound.{sound}
 use Rattle.model.specs.Forms.{Request}
 use Rattle.model.specs.Calls.{refuse, editSlot}
 use Rattle.types.specs.Views.{permissionNumber}
-use Rattle.laws.proofs.Frames.{framed, bounds}
-use Rattle.scan.specs.Free.{clearPages}
 use Rattle.scan.specs.Admission.{Admitted}
 use Rattle.scan.proofs.Admissions.{admitted}
-use Rattle.slots.specs.Named.{notOpen}
 use Rattle.monitor.specs.Edits.{requestFrom}
 use Rattle.monitor.proofs.EditRefusals.{edit-not-admitted, edit-slot}
 use Rattle.monitor.proofs.edit.Statement.{statement}

@@ -1,5 +1,5 @@
 -- `monitor::edit_open` meets its contract: the refusals of range, lent pages and room in their order, and then the stores of an accepted edit.
-use mathlib.Core.Path.{_≡_, sym, ap, ap₂, _∙_, subst, subst₃}
+use mathlib.Core.Path.{_≡_, sym, ap, _∙_, subst, subst₃}
 use mathlib.Core.Bool.{not, false, _&&_}
 use mathlib.Core.List.{List}
 use Prim.Native.Nat.{ℕ, _<_}
@@ -20,7 +20,7 @@ use Rattle.scan.specs.Free.{listed}
 use Rattle.types.specs.Views.{requestOf, freeList}
 use Rattle.shapes.specs.Blocks.{wholePages}
 use Rattle.sequence.specs.Blocks.{Prepared}
-use Rattle.sequence.specs.Made.{IsMade}
+use Rattle.sequence.specs.StoresMade.{IsMade}
 use Rattle.forms.proofs.BoardShape.{board-shape}
 use Rattle.sequence.proofs.Facts.{accepted-list}
 use Rattle.shapes.specs.Rooted.{Rooted}

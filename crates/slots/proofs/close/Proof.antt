@@ -1,8 +1,6 @@
 -- `slots::close` meets its contract: each return is one of the laws of `Refusals`, by the tests so far.
 use mathlib.Core.Path.{_≡_, sym, ap, _∙_}
-use mathlib.Core.Bool.{true, false}
-use mathlib.Core.List.{List}
-use Prim.Native.Nat.{ℕ}
+use mathlib.Core.Bool.{false}
 use lib.Dec.{lit≤}
 use denote.Ref.{now}
 use borrow.Author.Needs.{needs}

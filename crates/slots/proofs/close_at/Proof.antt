@@ -1,14 +1,11 @@
 -- `slots::close_at` meets its contract: one slot is emptied, and the fence is for the SDID that it had.
 use mathlib.Core.Path.{ap}
 use Prim.Native.Nat.{ℕ}
-use native.Mathlib.Omega.{arith}
 use lib.ListN.{set}
 use borrow.Author.Needs.{needs}
 use Rattle.model.specs.Sound.{emptySlot}
 use Rattle.types.specs.declared.Fence.the-variants.{Domain}
 use Rattle.types.specs.declared.Reply.the-variants.{Closed}
-use Rattle.types.specs.declared.Sdid.{Sdid}
-use Rattle.slots.specs.declared.Outcome.{Outcome}
 use Rattle.slots.proofs.close_at.Statement.{statement}
 use Rattle.slots.proofs.close_at.Tie as tie
 

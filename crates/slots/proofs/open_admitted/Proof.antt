@@ -1,6 +1,6 @@
 -- `slots::open_admitted` meets its contract: each return is one of the laws of `Refusals`, by the tests so far; the marks give the free pages.
 use mathlib.Core.Path.{_≡_, refl, sym, ap, _∙_}
-use mathlib.Core.Bool.{true, false}
+use mathlib.Core.Bool.{false}
 use mathlib.Core.List.{List, [], _∷_}
 use Prim.Native.Nat.{ℕ}
 use native.Mathlib.Omega.{arith}

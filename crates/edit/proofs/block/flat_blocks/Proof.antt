@@ -1,7 +1,7 @@
 -- `edit::block::flat_blocks` meets its contract: in a GiB of one permission each block has one entry to store, so the row's stores are its blocks'.
 use mathlib.Core.Path.{_≡_, sym, ap, ap₂, _∙_}
 use mathlib.Core.List.{List}
-use Prim.Native.Nat.{ℕ, _+_, _-_, _*_, _%_, _≤_, _<_}
+use Prim.Native.Nat.{ℕ, _+_, _-_, _*_, _%_}
 use native.Mathlib.Omega.{arith}
 use lib.ListN.{drop}
 use Rattle.shapes.proofs.BlockLaws.{row-stores, row-pages, flat-entry}
@@ -16,7 +16,7 @@ use Rattle.model.specs.Stores.{Store}
 use borrow.Author.Needs.{needs}
 use Rattle.edit.proofs.block.flat_blocks.Statement.{statement}
 use Rattle.edit.proofs.block.flat_blocks.Tie as tie
-use Rattle.table.specs.Board.{frameOf, TYPEUNIT}
+use Rattle.table.specs.Board.{frameOf, TYPE-UNIT}
 
 sub-n : tie.Need-sub-n
 sub-n c = search needs
@@ -45,7 +45,7 @@ row-here w =
     let F = frameOf (a .edit .f) m in
     let n = 32 - a .b % 32 in
     ap₂ (λ (x k : ℕ). rowStores m (λ y. x) n k) (w .narrow .ensures) (place F (a .edit .root .0) (a .b) _ (p .page-at .ensures .0))
-    ∙ sym (row-stores F m (requestOf (a .edit .q)) (a .edit .root .0) (a .gib) (λ y. a .gib .p * TYPEUNIT) n (a .b) (drop (a .next) (freeList (a .free))) (λ x lo hi. flat-entry F m (requestOf (a .edit .q)) (a .edit .root .0) (a .gib) (s .pre .3) x))
+    ∙ sym (row-stores F m (requestOf (a .edit .q)) (a .edit .root .0) (a .gib) (λ y. a .gib .p * TYPE-UNIT) n (a .b) (drop (a .next) (freeList (a .free))) (λ x lo hi. flat-entry F m (requestOf (a .edit .q)) (a .edit .root .0) (a .gib) (s .pre .3) x))
 
 flat-entries-requires : tie.Need-flat-entries-requires
 flat-entries-requires c κs =
@@ -69,7 +69,7 @@ returns c =
     record {
       made =
           c .before .before .before .flat-entries .ensures ∙ ap (λ (ss : List Store). run (a .left) ss m) (row-here (c .before .before .before .before));
-      pages = omega (arith, row-pages F m (requestOf (a .edit .q)) (a .edit .root .0) (a .gib) (λ w. a .gib .p * TYPEUNIT) n (a .b) (λ x lo hi. flat-entry F m (requestOf (a .edit .q)) (a .edit .root .0) (a .gib) (s .pre .3) x));
+      pages = omega (arith, row-pages F m (requestOf (a .edit .q)) (a .edit .root .0) (a .gib) (λ w. a .gib .p * TYPE-UNIT) n (a .b) (λ x lo hi. flat-entry F m (requestOf (a .edit .q)) (a .edit .root .0) (a .gib) (s .pre .3) x));
       some = omega arith;
       within = omega arith;
     }

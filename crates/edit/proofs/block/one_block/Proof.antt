@@ -1,10 +1,10 @@
 -- `edit::block::one_block` meets its contract: the form, the page and the stores that the code takes are those of the block.
-use mathlib.Core.Path.{_≡_, refl, sym, ap, ap₂, _∙_, subst}
-use mathlib.Core.Bool.{Bool, true}
-use mathlib.Core.List.{List, headD}
-use Prim.Native.Nat.{ℕ, _+_, _/_, _<_, _^_}
+use mathlib.Core.Path.{_≡_, sym, ap, ap₂, _∙_, subst}
+use mathlib.Core.Bool.{true}
+use mathlib.Core.List.{List}
+use Prim.Native.Nat.{ℕ, _+_, _<_, _^_}
 use native.Mathlib.Omega.{arith}
-use lib.ListN.{length, drop}
+use lib.ListN.{drop}
 use Rattle.model.specs.Stores.{Store, blockStores, needsPage}
 use Rattle.model.specs.Forms.{Form, formIn}
 use Rattle.model.specs.Frame.{lent}

@@ -1,7 +1,7 @@
 -- `edit::block::put_entry` meets its contract: the word at the root's start and the block's number is the block's entry, so the store is the model's.
-use mathlib.Core.Path.{_≡_, refl, sym, ap, ap₂, _∙_, subst}
+use mathlib.Core.Path.{_≡_, sym, ap, _∙_}
 use mathlib.Core.List.{List, [], _∷_}
-use Prim.Native.Nat.{ℕ, _+_}
+use Prim.Native.Nat.{_+_}
 use borrow.Author.Needs.{needs}
 use Rattle.shapes.proofs.BlockLaws.{changed-l2}
 use Rattle.shapes.proofs.Order.{ahead-of}
@@ -12,7 +12,6 @@ use lib.ListN.{getD}
 use Rattle.model.specs.Numbers.{if_then_else_}
 use Rattle.table.specs.Stored.{storeOf}
 use Rattle.model.specs.Stores.{Store, ifChangedL2}
-use Rattle.types.specs.Views.{entryOf, requestOf}
 use Rattle.edit.proofs.block.put_entry.Statement.{statement}
 use Rattle.edit.proofs.block.put_entry.Tie as tie
 use Rattle.table.specs.Board.{frameOf}

@@ -1,16 +1,13 @@
 -- `edit::block::store_block` meets its contract: the finished form says which stores there are: that of the entry, if it changes, or those of the
 -- L1 page.
-use mathlib.Core.Path.{_≡_, refl, sym, ap, _∙_, subst}
-use Prim.Native.Nat.{ℕ, _<_, _^_}
+use Prim.Native.Nat.{_<_}
 use native.Mathlib.Omega.{arith}
 use borrow.Author.Needs.{needs}
 use Rattle.model.specs.Entry.{encode}
-use Rattle.model.specs.Forms.{wantTable}
-use Rattle.model.specs.Stores.{needsPage, blockStores}
-use Rattle.types.specs.Views.{entryOf, formOf}
+use Rattle.model.specs.Stores.{blockStores}
 use Rattle.edit.proofs.block.store_block.Statement.{statement}
 use Rattle.edit.proofs.block.store_block.Tie as tie
-use Rattle.table.specs.Board.{INFO}
+use Rattle.table.specs.Board.{PIECE-INFO}
 
 enum-known-form : tie.Need-enum-known-form
 enum-known-form c = search needs
@@ -34,7 +31,7 @@ put-entry-requires c κs =
 enum-known-form-2 : tie.Need-enum-known-form-2
 enum-known-form-2 c = search needs
 
-pieces-small : (c : tie.After-form2) → c .form2 .given .0 .0 < INFO
+pieces-small : (c : tie.After-form2) → c .form2 .given .0 .0 < PIECE-INFO
 pieces-small c = rw (c .form2 .given .1) at (c .before .before .before .pre .5)
 
 add-narrow : tie.Need-add-narrow

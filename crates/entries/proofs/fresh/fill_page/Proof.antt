@@ -4,7 +4,7 @@ use mathlib.Core.List.{List, _++_}
 use Prim.Native.Nat.{ℕ, _-_}
 use lib.ListN.{length}
 use native.Mathlib.Omega.{arith}
-use Rattle.table.specs.Board.{WORDS, frameOf, frameOver}
+use Rattle.table.specs.Board.{PAGE-WORDS, frameOf, frameOver}
 use Rattle.shapes.specs.Pages.{newRun}
 use Rattle.shapes.proofs.NewPage.{run-same}
 use Rattle.shapes.proofs.PageLaws.{run-parts}
@@ -47,14 +47,14 @@ same-part n m len count i =
     run-same (frameOver (a .edit .f)) (requestOf (a .edit .q)) (entryOf (a .new .e)) (a .new .b) (a .new .page .0) m (a .words .now) (s .pre .4) len count i
 
 -- before the first part, the second and the third
-first : (n : tie.After-near-end) → let a = n .before .before .before .args in On n (a .left) (a .words .now) (part n (from′ n - 0) 0 ++ (part n (to′ n - from′ n) (from′ n) ++ part n (WORDS - to′ n) (to′ n)))
+first : (n : tie.After-near-end) → let a = n .before .before .before .args in On n (a .left) (a .words .now) (part n (from′ n - 0) 0 ++ (part n (to′ n - from′ n) (from′ n) ++ part n (PAGE-WORDS - to′ n) (to′ n)))
 first n =
     let s = n .before .before .before in
     let a = s .args in
     remaining-start (run-parts (frameOf (a .edit .f) (a .words .now)) (a .words .now) (requestOf (a .edit .q)) (entryOf (a .new .e)) (a .new .b) (a .new .page .0) (from′ n) (to′ n) (n .near-end .ensures .0) (n .near-end .ensures .1)) (s .pre .5)
 
 second : (el : tie.Else1) → let oe = el .before .before .before .before in let n = oe .before .before in
-    On n (oe .old-entries .result .left) (oe .old-entries .last .1 .0) (part n (to′ n - from′ n) (from′ n) ++ part n (WORDS - to′ n) (to′ n))
+    On n (oe .old-entries .result .left) (oe .old-entries .last .1 .0) (part n (to′ n - from′ n) (from′ n) ++ part n (PAGE-WORDS - to′ n) (to′ n))
 second el =
     let oe = el .before .before .before .before in
     let r = oe .old-entries in
@@ -69,7 +69,7 @@ said ne =
     ne .new-entries .ensures ∙ ap (λ (ss : List Store). run (r .result .left) ss (r .last .1 .0)) (same-part (oe .before .before) (r .last .1 .0) (r .kept .1 .0) _ _)
 
 third : (el2 : tie.Else2) → let ne = el2 .before .before .before .before in let n = ne .before .before .before .before .before .before .before .before .before in
-    On n (ne .new-entries .result .left) (ne .new-entries .last .1 .0) (part n (WORDS - to′ n) (to′ n))
+    On n (ne .new-entries .result .left) (ne .new-entries .last .1 .0) (part n (PAGE-WORDS - to′ n) (to′ n))
 third el2 =
     let ne = el2 .before .before .before .before in
     let t = ne .new-entries in

@@ -1,18 +1,16 @@
 -- `entries::fresh::old_fill` meets its contract: each entry of the run, outside the range, stays the one word, so a fill makes the run's stores.
 use mathlib.Core.Path.{_≡_, sym, ap, _∙_, subst}
 use mathlib.Core.List.{List}
-use Prim.Native.Nat.{ℕ, _+_, _-_, _*_, _/_, _≤_, _<_, _^_}
+use Prim.Native.Nat.{ℕ, _+_, _-_, _≤_, _<_}
 use native.Mathlib.Omega.{arith}
-use lib.ListN.{length}
 use borrow.Author.Needs.{needs}
 use Rattle.model.specs.Forms.{l1Word}
-use Rattle.model.specs.Frame.{indexOf}
 use Rattle.model.specs.Stores.{Store}
 use Rattle.types.specs.Views.{entryOf, requestOf}
 use Rattle.forms.proofs.BoardShape.{board-shape}
 use Rattle.shapes.specs.Words.{oldWord}
 use Rattle.shapes.proofs.EntryLaws.{word-outside}
-use Rattle.table.specs.Board.{ENTRY, frameOf}
+use Rattle.table.specs.Board.{ENTRY-VALUES, frameOf}
 use Rattle.shapes.specs.Rows.{fillStores}
 use Rattle.shapes.specs.Run.{run}
 use Rattle.shapes.specs.Ahead.{Ahead}
@@ -59,7 +57,7 @@ word-of c k lo hi =
     let same : c .old-word .result ≡ oldWord (frameOf (a .edit .f) m) m (entryOf (a .new .e)) k = c .old-word .ensures ∙ sym (s .pre .8 k lo hi) in
     same
     ∙ word-outside (frameOf (a .edit .f) m) board-shape m (requestOf (a .edit .q)) (s .pre .3 .small) (entryOf (a .new .e)) (s .pre .4) (a .new .b) k (omega (arith, s .pre .1))
-    (subst (λ (w : ℕ). w < ENTRY) same (omega arith))
+    (subst (λ (w : ℕ). w < ENTRY-VALUES) same (omega arith))
     (λ j l h. s .pre .7 j (omega arith) (omega arith))
 
 -- so a fill makes the stores of the run

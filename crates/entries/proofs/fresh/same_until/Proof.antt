@@ -3,7 +3,7 @@ use mathlib.Core.Path.{_≡_}
 use Prim.Native.Nat.{_/_}
 use native.Mathlib.Omega.{arith}
 use borrow.Author.Needs.{needs}
-use Rattle.table.specs.Board.{ROW}
+use Rattle.table.specs.Board.{PIECE-WORDS}
 use Rattle.entries.proofs.fresh.same_until.Statement.{statement}
 use Rattle.entries.proofs.fresh.same_until.Tie as tie
 
@@ -35,14 +35,14 @@ returns-2 : tie.Need-returns-2
 returns-2 c = (
   omega arith,
   omega arith,
-  λ f m k lo hi. let z : k / ROW ≡ c .before .before .before .args .i / ROW = omega arith in rw (c .before .enum-told2 .given .1, z),
+  λ f m k lo hi. let z : k / PIECE-WORDS ≡ c .before .before .before .args .i / PIECE-WORDS = omega arith in rw (c .before .enum-told2 .given .1, z),
 )
 
 returns-3 : tie.Need-returns-3
 returns-3 c = (
   omega arith,
   omega arith,
-  λ f m k lo hi. let z : k / ROW ≡ c .before .before .before .args .i / ROW = omega (arith, c .if1 .left) in rw (c .before .enum-told2 .given .1, z),
+  λ f m k lo hi. let z : k / PIECE-WORDS ≡ c .before .before .before .args .i / PIECE-WORDS = omega (arith, c .if1 .left) in rw (c .before .enum-told2 .given .1, z),
 )
 
 returns-4 : tie.Need-returns-4

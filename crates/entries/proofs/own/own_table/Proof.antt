@@ -3,7 +3,6 @@ use native.Mathlib.Omega.{arith}
 use borrow.Author.Needs.{needs}
 use Rattle.forms.proofs.BoardShape.{board-shape}
 use Rattle.shapes.proofs.OwnPage.{own-none}
-use Rattle.types.specs.Views.{requestOf}
 use Rattle.entries.proofs.own.own_table.Statement.{statement}
 use Rattle.entries.proofs.own.own_table.Tie as tie
 

@@ -2,7 +2,7 @@
 use mathlib.Core.Path.{sym, ap, _∙_, subst}
 use Prim.Native.Nat.{_<_}
 use native.Mathlib.Omega.{arith}
-use Rattle.table.specs.Board.{board, INFO}
+use Rattle.table.specs.Board.{board, PIECE-INFO}
 use Rattle.shapes.specs.Rows.{piecesOf}
 use Rattle.table.specs.Bounds.{Small}
 use Rattle.types.specs.Views.{entryOf}
@@ -13,7 +13,7 @@ use Rattle.entries.proofs.rows.pieces_word.Tie as tie
 flat-small : (c : tie.After-p) → c .p .given .0 .0 < 4
 flat-small c = subst Small (ap entryOf (c .p .given .1)) (c .before .before .decode .ensures .1)
 
-pieces-small : (c : tie.After-info) → c .info .given .0 .0 < INFO
+pieces-small : (c : tie.After-info) → c .info .given .0 .0 < PIECE-INFO
 pieces-small c = subst Small (ap entryOf (c .info .given .1)) (c .before .before .decode .ensures .1)
 
 decode-requires : tie.Need-decode-requires

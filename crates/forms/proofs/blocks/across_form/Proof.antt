@@ -1,8 +1,7 @@
 -- `forms::blocks::across_form` meets its contract: an entry without an L1 page is of whole pieces.
-use Prim.Native.Nat.{_/_, _<_}
+use Prim.Native.Nat.{_<_}
 use native.Mathlib.Omega.{arith}
-use lib.ListN.{length}
-use Rattle.table.specs.Board.{INFO, frameOf}
+use Rattle.table.specs.Board.{PIECE-INFO, frameOf}
 use Rattle.forms.proofs.BoardShape.{board-shape}
 use Rattle.shapes.proofs.EvenLaws.{even-flat, even-pieces}
 use borrow.Author.Needs.{needs}
@@ -30,7 +29,7 @@ even-form-requires-2 : tie.Need-even-form-requires-2
 even-form-requires-2 c κs =
     let s = c .before .before .before .before in
     let a = s .args in
-    let h : c .before .e2 .given .0 .0 < INFO = rw (c .before .e2 .given .1) at (s .pre .2) in
+    let h : c .before .e2 .given .0 .0 < PIECE-INFO = rw (c .before .e2 .given .1) at (s .pre .2) in
     (s .pre .0, s .pre .1, h, h, even-pieces (frameOf (a .edit .f) (a .words .now)) board-shape (a .words .now) (c .before .e2 .given .0 .0) (a .b))
 
 enum-told : tie.Need-enum-told

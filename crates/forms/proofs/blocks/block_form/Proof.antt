@@ -1,9 +1,7 @@
 -- `forms::blocks::block_form` meets its contract: a GiB of one permission, and else inside the range, outside it, and across an end.
-use mathlib.Core.Path.{_≡_, refl, sym, ap, _∙_}
-use Prim.Native.Nat.{ℕ, _/_, _<_}
+use mathlib.Core.Path.{_∙_}
 use native.Mathlib.Omega.{arith}
 use borrow.Author.Needs.{needs}
-use lib.ListN.{length}
 use Rattle.table.specs.Board.{frameOf}
 use Rattle.shapes.proofs.FormLaws.{form-flat, form-not, form-inside}
 use Rattle.forms.proofs.BoardShape.{board-shape}

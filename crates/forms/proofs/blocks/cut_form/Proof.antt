@@ -1,10 +1,9 @@
 -- `forms::blocks::cut_form` meets its contract: a mixed piece at an end of the range decides for the block.
-use mathlib.Core.Path.{_≡_, sym, _∙_}
+use mathlib.Core.Path.{sym, _∙_}
 use Prim.Native.Nat.{_+_, _/_, _%_}
 use native.Mathlib.Omega.{arith}
 use borrow.Author.Tests.{not-true}
-use lib.ListN.{length}
-use Rattle.table.specs.Board.{PIECES, PIECEBYTES, frameOf}
+use Rattle.table.specs.Board.{PIECES, PIECE-BYTES, frameOf}
 use Rattle.shapes.proofs.FormLaws.{isOne, form-table}
 use Rattle.shapes.proofs.Fields.{every-fail}
 use Rattle.types.specs.Views.{entryOf, requestOf}
@@ -19,7 +18,7 @@ returns : tie.Need-returns
 returns c = let s = c .before .before .before .before in
     let a = s .args in
     form-table (frameOf (a .edit .f) (a .words .now)) (a .words .now) (requestOf (a .edit .q)) (entryOf (a .e)) (a .b)
-    (every-fail (isOne (frameOf (a .edit .f) (a .words .now)) (a .words .now) (requestOf (a .edit .q)) (entryOf (a .e)) (a .b)) PIECES (a .edit .q .start .0 / PIECEBYTES % PIECES) (omega arith)
+    (every-fail (isOne (frameOf (a .edit .f) (a .words .now)) (a .words .now) (requestOf (a .edit .q)) (entryOf (a .e)) (a .b)) PIECES (a .edit .q .start .0 / PIECE-BYTES % PIECES) (omega arith)
     (sym (c .before .piece-is-one .ensures) ∙ not-true _ (c .if1 .taken)))
 
 add-piece-is-one : tie.Need-add-piece-is-one
@@ -32,7 +31,7 @@ returns-2 : tie.Need-returns-2
 returns-2 c = let s = c .before .before .before .before .before .before .before in
     let a = s .args in
     form-table (frameOf (a .edit .f) (a .words .now)) (a .words .now) (requestOf (a .edit .q)) (entryOf (a .e)) (a .b)
-    (every-fail (isOne (frameOf (a .edit .f) (a .words .now)) (a .words .now) (requestOf (a .edit .q)) (entryOf (a .e)) (a .b)) PIECES ((a .edit .q .start .0 + a .edit .q .size) / PIECEBYTES % PIECES) (omega arith)
+    (every-fail (isOne (frameOf (a .edit .f) (a .words .now)) (a .words .now) (requestOf (a .edit .q)) (entryOf (a .e)) (a .b)) PIECES ((a .edit .q .start .0 + a .edit .q .size) / PIECE-BYTES % PIECES) (omega arith)
     (sym (c .before .piece-is-one2 .ensures) ∙ not-true _ (c .if2 .taken)))
 
 pieces-form-requires : tie.Need-pieces-form-requires

@@ -1,9 +1,8 @@
 -- `forms::blocks::outside_form` meets its contract: outside the range the form is what the entry says, by pieces.
-use mathlib.Core.Path.{_≡_, refl, sym, ap, _∙_}
-use Prim.Native.Nat.{ℕ, _/_, _<_}
+use mathlib.Core.Path.{ap}
+use Prim.Native.Nat.{_<_}
 use native.Mathlib.Omega.{arith}
 use borrow.Author.Needs.{needs}
-use lib.ListN.{length}
 use Rattle.table.specs.Board.{frameOf}
 use Rattle.forms.proofs.BoardShape.{board-shape}
 use Rattle.shapes.proofs.FormLaws.{form-flat-out, form-pieces-out}

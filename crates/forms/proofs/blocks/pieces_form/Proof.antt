@@ -1,13 +1,12 @@
 -- `forms::blocks::pieces_form` meets its contract: the pieces so far, from the highest down, are the digits of the form; the first that is mixed decides.
-use mathlib.Core.Path.{_≡_, refl, sym, ap, ap₂, _∙_, subst}
-use mathlib.Core.Bool.{Bool, true, false}
-use Prim.Native.Nat.{ℕ, _+_, _-_, _*_, _/_, _≤_, _<_, _^_}
+use mathlib.Core.Path.{_≡_, refl, sym, ap, _∙_, subst}
+use mathlib.Core.Bool.{Bool, true}
+use Prim.Native.Nat.{ℕ, _+_, _-_, _*_, _≤_, _<_}
 use native.Mathlib.Nat.{zero-add}
 use native.Mathlib.Omega.{arith}
 use borrow.Author.Needs.{needs}
 use borrow.Author.Tests.{not-true, not-false}
-use lib.ListN.{length}
-use Rattle.table.specs.Board.{PIECES, PIECE, INFO, frameOf}
+use Rattle.table.specs.Board.{PIECES, PIECE-PAGES, PIECE-INFO, frameOf}
 use Rattle.forms.proofs.BoardShape.{board-shape}
 use Rattle.shapes.proofs.FormLaws.{firstOf, isOne, form-pieces, form-table}
 use Rattle.shapes.proofs.Fields.{horner, every-down, every-fail, pack-fits}
@@ -34,7 +33,7 @@ piece-one c =
     let l = c .before .before in
     let a = l .before .before .args in
     c .piece-at .ensures .1
-    ∙ ap (λ (p : ℕ). allAre (frameOf (a .edit .f) (a .words .now)) (a .words .now) (requestOf (a .edit .q)) (entryOf (a .e)) p PIECE (a .b * 8192 + ((PIECES - 1) - l .loop .j) * PIECE)) (c .piece-at .ensures .0)
+    ∙ ap (λ (p : ℕ). allAre (frameOf (a .edit .f) (a .words .now)) (a .words .now) (requestOf (a .edit .q)) (entryOf (a .e)) p PIECE-PAGES (a .b * 8192 + ((PIECES - 1) - l .loop .j) * PIECE-PAGES)) (c .piece-at .ensures .0)
 
 next-info : (c : tie.Else1 Inv-loop μ-loop) → let l = c .before .before .before .before in let a = l .before .before .args in
     c .before .before .piece-at .result .p + 4 * l .loop .info ≡ pack 4 (firstOf (frameOf (a .edit .f) (a .words .now)) (a .words .now) (requestOf (a .edit .q)) (entryOf (a .e)) (a .b)) (l .loop .j + 1) (PIECES - (l .loop .j + 1))
@@ -43,14 +42,14 @@ next-info c =
     let a = l .before .before .args in
     horner 4 (firstOf (frameOf (a .edit .f) (a .words .now)) (a .words .now) (requestOf (a .edit .q)) (entryOf (a .e)) (a .b)) PIECES 0 (l .loop .j) (l .loop .info) (c .before .before .piece-at .result .p) (omega arith) (l .loop .inv .1) (c .before .before .piece-at .ensures .0 ∙ ap (firstOf (frameOf (a .edit .f) (a .words .now)) (a .words .now) (requestOf (a .edit .q)) (entryOf (a .e)) (a .b)) (sym (zero-add ((PIECES - 1) - l .loop .j))))
 
-next-fits : (c : tie.Else1 Inv-loop μ-loop) → c .before .before .piece-at .result .p + 4 * c .before .before .before .before .loop .info < INFO
+next-fits : (c : tie.Else1 Inv-loop μ-loop) → c .before .before .piece-at .result .p + 4 * c .before .before .before .before .loop .info < PIECE-INFO
 next-fits c =
     let l = c .before .before .before .before in
     let a = l .before .before .args in
     let pre = l .before .before .pre in
-    subst (λ (k : ℕ). k < INFO) (sym (next-info c))
+    subst (λ (k : ℕ). k < PIECE-INFO) (sym (next-info c))
     (pack-fits 4 (firstOf (frameOf (a .edit .f) (a .words .now)) (a .words .now) (requestOf (a .edit .q)) (entryOf (a .e)) (a .b))
-    (λ k. after-small (frameOf (a .edit .f) (a .words .now)) board-shape (a .words .now) (requestOf (a .edit .q)) (pre .1 .small) (entryOf (a .e)) (pre .2) (a .b * 8192 + k * PIECE))
+    (λ k. after-small (frameOf (a .edit .f) (a .words .now)) board-shape (a .words .now) (requestOf (a .edit .q)) (pre .1 .small) (entryOf (a .e)) (pre .2) (a .b * 8192 + k * PIECE-PAGES))
     PIECES (l .loop .j + 1) (PIECES - (l .loop .j + 1)) (omega arith))
 
 loop-holds : tie.Need-loop-holds Inv-loop μ-loop

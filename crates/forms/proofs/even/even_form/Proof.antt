@@ -3,8 +3,7 @@ use mathlib.Core.Path.{_≡_, ap, _∙_, subst}
 use Prim.Native.Nat.{ℕ, _+_, _-_, _*_, _/_}
 use native.Mathlib.Omega.{arith}
 use mathlib.Core.Bool.{Bool}
-use lib.ListN.{length}
-use Rattle.table.specs.Board.{board, PIECES, PIECE, EACHPIECE, frameOf}
+use Rattle.table.specs.Board.{board, PIECES, PIECE-PAGES, EACH-PIECE, frameOf}
 use Rattle.types.specs.Range.{Cut}
 use Rattle.forms.proofs.BoardShape.{board-shape}
 use Rattle.shapes.proofs.EvenLaws.{mixed-first, mixed-past, even-spliced}
@@ -97,7 +96,7 @@ returns-3 c =
     let a = s .args in
     let lo : ℕ = k .before .cut .result in
     let hi : ℕ = k .cut2 .result in
-    let want : ℕ = a .edit .q .permission * EACHPIECE in
+    let want : ℕ = a .edit .q .permission * EACH-PIECE in
     ap wantPieces
     (c .splice2 .ensures
     ∙ ap (λ (w : ℕ). spliced 2 (2 * hi) w (a .info)) (c .before .splice .ensures ∙ splice-bits 2 lo (a .info) want)
@@ -106,8 +105,8 @@ returns-3 c =
     (mixing s _ _ _ _ (first-up s) (o .before .before .if1 .left) (o .before .before .before .mixes .ensures))
     (mixing s _ _ _ _ (past-up s) (o .if2 .left) (o .before .mixes2 .ensures))
     lo hi
-    (subst (λ (n : ℕ). Cut ((n + (PIECE - 1)) / PIECE) (a .b * PIECES) PIECES lo) (first-up s) (k .before .cut .ensures))
-    (subst (λ (n : ℕ). Cut ((n + (PIECE - 1)) / PIECE) (a .b * PIECES) PIECES hi) (past-up s) (k .cut2 .ensures))
+    (subst (λ (n : ℕ). Cut ((n + (PIECE-PAGES - 1)) / PIECE-PAGES) (a .b * PIECES) PIECES lo) (first-up s) (k .before .cut .ensures))
+    (subst (λ (n : ℕ). Cut ((n + (PIECE-PAGES - 1)) / PIECE-PAGES) (a .b * PIECES) PIECES hi) (past-up s) (k .cut2 .ensures))
 
 pub even-form-spec : {M : Type 1} → statement M
 even-form-spec =

@@ -4,7 +4,7 @@ use Prim.Native.Nat.{_/_, _%_}
 use native.Mathlib.Omega.{arith}
 use Rattle.model.specs.Numbers.{digit}
 use borrow.Author.Needs.{needs}
-use Rattle.table.specs.Board.{PIECES, PIECE}
+use Rattle.table.specs.Board.{PIECES, PIECE-PAGES}
 use Rattle.forms.proofs.even.mixes.Statement.{statement}
 use Rattle.forms.proofs.even.mixes.Tie as tie
 
@@ -20,7 +20,7 @@ piece-requires c κs = search needs
 returns-3 : tie.Need-returns-3
 returns-3 c =
     λ i u lo hi. let a = c .before .before .before .before .before .args in
-    let z : i ≡ a .at / PIECE % PIECES = omega arith in
+    let z : i ≡ a .at / PIECE-PAGES % PIECES = omega arith in
     ap (digit 4 (a .info)) z ∙ sym (c .before .before .piece .ensures .0) ∙ c .if3 .taken
 
 returns-4 : tie.Need-returns-4

@@ -1,7 +1,5 @@
 -- `forms::gibs::block_new_pages` meets its contract: a block inside the range takes no page.
-use mathlib.Core.Path.{_≡_, ap}
-use Prim.Native.Nat.{_/_}
-use lib.ListN.{length}
+use mathlib.Core.Path.{ap}
 use Rattle.table.specs.Board.{frameOf}
 use Rattle.forms.proofs.BoardShape.{board-shape}
 use Rattle.shapes.proofs.FormLaws.{form-inside}

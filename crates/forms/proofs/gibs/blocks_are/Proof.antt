@@ -1,11 +1,8 @@
 -- `forms::gibs::blocks_are` meets its contract: the blocks that are left decide the whole GiB.
-use mathlib.Core.Path.{_≡_, refl, sym, ap, _∙_, subst}
-use mathlib.Core.Bool.{Bool, true, false}
-use Prim.Native.Nat.{ℕ, _+_, _-_, _*_, _/_, _≤_, _<_}
+use mathlib.Core.Path.{_≡_, sym, ap, _∙_, subst}
+use Prim.Native.Nat.{_+_, _-_, _*_, _≤_}
 use native.Mathlib.Omega.{arith}
-use borrow.Author.Needs.{needs}
 use borrow.Author.Tests.{not-true, not-false}
-use lib.ListN.{length}
 use Rattle.table.specs.Board.{frameOf}
 use Rattle.shapes.specs.Blocks.{blockIs}
 use Rattle.shapes.proofs.GibLaws.{gib-every}
@@ -13,7 +10,7 @@ use Rattle.shapes.proofs.Fields.{every-next, every-stop, every-none}
 use Rattle.model.specs.Entry.{Entry}
 use Rattle.model.specs.Forms.{allAre, gibIsOne}
 use Rattle.model.specs.Numbers.{every}
-use Rattle.types.specs.Views.{entryOf, requestOf}
+use Rattle.types.specs.Views.{requestOf}
 use Rattle.shapes.specs.Rooted.{Good}
 use Rattle.forms.proofs.gibs.blocks_are.Statement.{statement}
 use Rattle.forms.proofs.gibs.blocks_are.Tie as tie

@@ -1,5 +1,4 @@
 -- `forms::gibs::gib_at` meets its contract: the first block of a GiB decides, and the others keep what it said.
-use mathlib.Core.Path.{_≡_, refl, sym, ap, _∙_}
 use borrow.Author.Needs.{needs}
 use Rattle.forms.proofs.gibs.gib_at.Statement.{statement}
 use Rattle.forms.proofs.gibs.gib_at.Tie as tie

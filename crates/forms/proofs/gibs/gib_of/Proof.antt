@@ -1,13 +1,8 @@
 -- `forms::gibs::gib_of` meets its contract: a GiB wholly in the range is of the asked permission.
-use mathlib.Core.Path.{_≡_, refl, sym, ap, _∙_, subst}
-use Prim.Native.Nat.{ℕ, _+_, _*_, _/_, _<_}
-use native.Mathlib.Omega.{arith}
-use lib.ListN.{length}
 use borrow.Author.Needs.{needs}
 use Rattle.forms.proofs.BoardShape.{board-shape}
 use Rattle.shapes.proofs.GibLaws.{inside-first, inside-one}
-use Rattle.types.specs.Views.{entryOf, requestOf}
-use Rattle.shapes.specs.Rooted.{Good}
+use Rattle.types.specs.Views.{requestOf}
 use Rattle.forms.proofs.gibs.gib_of.Statement.{statement}
 use Rattle.forms.proofs.gibs.gib_of.Tie as tie
 

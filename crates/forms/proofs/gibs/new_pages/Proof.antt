@@ -1,5 +1,5 @@
 -- `forms::gibs::new_pages` meets its contract: a range of whole pieces takes none, and any other only at its two ends.
-use mathlib.Core.Path.{_≡_, sym, ap₂, _∙_}
+use mathlib.Core.Path.{sym, ap₂, _∙_}
 use Prim.Native.Nat.{ℕ, _+_, _-_, _/_, _≤_, _<_}
 use native.Mathlib.Omega.{arith}
 use borrow.Author.Tests.{eqb-true}
@@ -13,7 +13,6 @@ use Rattle.types.specs.Range.{Fair}
 use Rattle.forms.proofs.BoardShape.{board-shape}
 use Rattle.shapes.proofs.CountLaws.{some, low-inside, high-inside, count-none, count-one, count-two, one-at-most}
 use Rattle.forms.proofs.gibs.new_pages.Statement.{statement}
-use Rattle.types.specs.Views.{requestOf}
 use Rattle.forms.proofs.gibs.new_pages.Tie as tie
 
 fair : (s : tie.Start) → Fair (s .args .edit .q)

@@ -1,9 +1,8 @@
 -- `forms::gibs::read_gib` meets its contract: a page of the range and a first page of another permission make it mixed.
 use mathlib.Core.Path.{_≡_, sym, ap, _∙_, subst}
-use Prim.Native.Nat.{_+_, _*_, _/_}
+use Prim.Native.Nat.{_+_, _*_}
 use native.Mathlib.Omega.{arith}
-use lib.ListN.{length}
-use Rattle.table.specs.Board.{PIECE, frameOf}
+use Rattle.table.specs.Board.{PIECE-PAGES, frameOf}
 use Rattle.shapes.proofs.GibLaws.{first-of, mixed-gib}
 use Rattle.types.specs.Range.{Meets}
 use Rattle.model.specs.Entry.{Entry}
@@ -19,7 +18,7 @@ first-is : (c : tie.After-piece-first) → let a = c .before .before .before .ar
 first-is c =
     let a = c .before .before .before .args in
     c .piece-first .ensures .0
-    ∙ ap (λ (e : Entry). afterIn (frameOf (a .edit .f) (a .words .now)) (a .words .now) (requestOf (a .edit .q)) e (a .g * 32 * 8192 + 0 * PIECE)) (c .before .entry-at .ensures .0)
+    ∙ ap (λ (e : Entry). afterIn (frameOf (a .edit .f) (a .words .now)) (a .words .now) (requestOf (a .edit .q)) e (a .g * 32 * 8192 + 0 * PIECE-PAGES)) (c .before .entry-at .ensures .0)
     ∙ first-of _ _ _ (a .edit .root .0) (a .g)
 
 mul-b : tie.Need-mul-b

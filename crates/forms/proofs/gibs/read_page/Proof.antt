@@ -1,5 +1,5 @@
 -- `forms::gibs::read_page` meets its contract: a block that has its page takes none; for any other its form decides.
-use mathlib.Core.Path.{_≡_, refl, sym, ap, ap₂, _∙_, subst}
+use mathlib.Core.Path.{_≡_, sym, ap, ap₂, _∙_, subst}
 use mathlib.Core.Bool.{false}
 use native.Mathlib.Omega.{arith}
 use borrow.Author.Tests.{not-true}
@@ -9,7 +9,7 @@ use Rattle.model.specs.Entry.{Entry}
 use Rattle.model.specs.Forms as model
 use Rattle.model.specs.Stores.{needsPage}
 use Rattle.model.specs.Walk as walk
-use Rattle.types.specs.Views.{entryOf, requestOf}
+use Rattle.types.specs.Views.{requestOf}
 use Rattle.shapes.specs.Rooted.{Good}
 use borrow.Author.Needs.{needs}
 use Rattle.forms.proofs.gibs.read_page.Statement.{statement}

@@ -1,5 +1,5 @@
 -- `forms::pieces::block_is` meets its contract: inside the range, outside it, and across an end.
-use Prim.Native.Nat.{_*_, _/_}
+use Prim.Native.Nat.{_*_}
 use native.Mathlib.Omega.{arith}
 use Rattle.table.specs.Board.{frameOf}
 use Rattle.forms.proofs.BoardShape.{board-shape}

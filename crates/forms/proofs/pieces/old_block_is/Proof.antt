@@ -1,10 +1,8 @@
 -- `forms::pieces::old_block_is` meets its contract: by what the block's entry says; with an L1 page, by its pieces.
 use Rattle.model.specs.Entry.{pieces}
-use mathlib.Core.Path.{_≡_}
-use Prim.Native.Nat.{_*_, _/_, _<_}
+use Prim.Native.Nat.{_*_, _<_}
 use native.Mathlib.Omega.{arith}
-use lib.ListN.{length}
-use Rattle.table.specs.Board.{INFO, frameOf}
+use Rattle.table.specs.Board.{PIECE-INFO, frameOf}
 use Rattle.forms.proofs.BoardShape.{board-shape}
 use Rattle.shapes.proofs.EntryLaws.{run-outside}
 use Rattle.shapes.proofs.EvenLaws.{even-is, even-pieces}
@@ -49,7 +47,7 @@ returns-2 c =
     let s = c .before .before .before .before in
     let a = s .args in
     let x = c .before .e2 .given .0 .0 in
-    let h : x < INFO = rw (c .before .e2 .given .1) at (s .pre .3) in
+    let h : x < PIECE-INFO = rw (c .before .e2 .given .1) at (s .pre .3) in
     rw (c .before .e2 .given .1)
     (even-is (frameOf (a .edit .f) (a .words .now)) board-shape (a .words .now) (requestOf (a .edit .q)) (s .pre .2 .small) (pieces x) h (a .b) x h
     (even-pieces (frameOf (a .edit .f) (a .words .now)) board-shape (a .words .now) x (a .b))

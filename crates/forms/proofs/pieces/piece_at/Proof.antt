@@ -1,10 +1,9 @@
 -- `forms::pieces::piece_at` meets its contract: inside the range, outside it, and across an end.
-use mathlib.Core.Path.{_≡_, refl, sym, ap, _∙_, subst}
-use Prim.Native.Nat.{ℕ, _+_, _*_, _/_, _<_, _-_}
+use mathlib.Core.Path.{refl, sym, _∙_}
+use Prim.Native.Nat.{_+_, _*_, _-_}
 use native.Mathlib.Omega.{arith}
-use lib.ListN.{length}
 use borrow.Author.Tests.{eq-eqb}
-use Rattle.table.specs.Board.{PIECE, frameOf}
+use Rattle.table.specs.Board.{PIECE-PAGES, frameOf}
 use Rattle.forms.proofs.BoardShape.{board-shape}
 use Rattle.shapes.proofs.EntryLaws.{run-inside}
 use Rattle.model.specs.Forms.{afterIn}
@@ -46,9 +45,9 @@ unfolding afterIn
 returns c = let s = c .before .before .before .before in
     let a = s .args in
     let h = rw (c .enum-told .given .1) at (c .before .before .lies .ensures) in (
-      rw (h (a .b * 8192 + a .i * PIECE) (omega arith) (omega arith)),
+      rw (h (a .b * 8192 + a .i * PIECE-PAGES) (omega arith) (omega arith)),
       sym (eq-eqb (a .edit .q .permission) (a .edit .q .permission) refl)
-          ∙ run-inside (frameOf (a .edit .f) (a .words .now)) board-shape (a .words .now) (requestOf (a .edit .q)) (s .pre .2 .small) (entryOf (a .e)) (s .pre .3) (a .edit .q .permission) PIECE (a .b * 8192 + a .i * PIECE) (omega arith) h,
+          ∙ run-inside (frameOf (a .edit .f) (a .words .now)) board-shape (a .words .now) (requestOf (a .edit .q)) (s .pre .2 .small) (entryOf (a .e)) (s .pre .3) (a .edit .q .permission) PIECE-PAGES (a .b * 8192 + a .i * PIECE-PAGES) (omega arith) h,
       s .pre .2 .small,
     )
 

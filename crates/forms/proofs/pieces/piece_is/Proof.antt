@@ -1,11 +1,9 @@
 -- `forms::pieces::piece_is` meets its contract: inside the range, outside it, and across an end.
-use mathlib.Core.Path.{_≡_, refl, sym, ap, _∙_, subst}
-use Prim.Native.Nat.{ℕ, _+_, _-_, _*_, _/_, _%_, _≤_, _<_}
+use mathlib.Core.Path.{_≡_, ap, _∙_}
+use Prim.Native.Nat.{_+_, _-_, _*_}
 use native.Mathlib.Omega.{arith}
-use lib.ListN.{length}
-use lib.Dec.{eqb}
 use borrow.Author.Needs.{needs}
-use Rattle.table.specs.Board.{FIELDS, PIECE, ROW, frameOf}
+use Rattle.table.specs.Board.{FIELDS, PIECE-PAGES, PIECE-WORDS, frameOf}
 use Rattle.forms.proofs.BoardShape.{board-shape}
 use Rattle.shapes.proofs.EntryLaws.{run-inside}
 use Rattle.model.specs.Forms.{allAre}
@@ -49,7 +47,7 @@ returns : tie.Need-returns
 returns c =
     let a = c .before .before .before .before .before .args in
     let pre = c .before .before .before .before .before .pre in
-    run-inside (frameOf (a .edit .f) (a .words .now)) board-shape (a .words .now) (requestOf (a .edit .q)) (pre .3 .small) (entryOf (a .e)) (pre .4) (a .p) PIECE (a .b * 8192 + a .i * PIECE) (omega arith)
+    run-inside (frameOf (a .edit .f) (a .words .now)) board-shape (a .words .now) (requestOf (a .edit .q)) (pre .3 .small) (entryOf (a .e)) (pre .4) (a .p) PIECE-PAGES (a .b * 8192 + a .i * PIECE-PAGES) (omega arith)
     (rw (c .before .enum-told .given .1) at (c .before .before .before .lies .ensures))
 
 returns-2 : tie.Need-returns-2
@@ -58,8 +56,8 @@ returns-2 c = search needs
 returns-3 : tie.Need-returns-3
 returns-3 c =
     let a = c .before .before .before .before .before .args in
-    let z : a .b * 8192 + a .i * ROW * FIELDS ≡ a .b * 8192 + a .i * PIECE = omega arith in
-    c .words-are .ensures ∙ ap (allAre (frameOf (a .edit .f) (a .words .now)) (a .words .now) (requestOf (a .edit .q)) (entryOf (a .e)) (a .p) PIECE) z
+    let z : a .b * 8192 + a .i * PIECE-WORDS * FIELDS ≡ a .b * 8192 + a .i * PIECE-PAGES = omega arith in
+    c .words-are .ensures ∙ ap (allAre (frameOf (a .edit .f) (a .words .now)) (a .words .now) (requestOf (a .edit .q)) (entryOf (a .e)) (a .p) PIECE-PAGES) z
 
 pub piece-is-spec : {M : Type 1} → statement M
 piece-is-spec =

@@ -1,12 +1,10 @@
 -- `forms::pieces::pieces_are` meets its contract: the pieces that are left decide the whole block.
-use mathlib.Core.Path.{_≡_, refl, sym, ap, _∙_}
-use mathlib.Core.Bool.{Bool, true, false}
-use Prim.Native.Nat.{ℕ, _+_, _-_, _*_, _/_, _≤_, _<_}
+use mathlib.Core.Path.{_≡_, sym, ap, _∙_}
+use Prim.Native.Nat.{_+_, _-_, _*_, _≤_}
 use native.Mathlib.Omega.{arith}
 use borrow.Author.Needs.{needs}
 use borrow.Author.Tests.{not-true, not-false}
-use lib.ListN.{length}
-use Rattle.table.specs.Board.{PIECES, PIECE, frameOf}
+use Rattle.table.specs.Board.{PIECES, PIECE-PAGES, frameOf}
 use Rattle.forms.proofs.BoardShape.{board-shape}
 use Rattle.shapes.proofs.EntryLaws.{pieces-next, pieces-stop, all-none}
 use Rattle.model.specs.Forms.{allAre}
@@ -17,7 +15,7 @@ use Rattle.forms.proofs.pieces.pieces_are.Tie as tie
 abbrev Inv-loop : tie.InvT-loop
 Inv-loop edit words e b p i₀ i =
     (i ≤ PIECES)
-    × (allAre (frameOf (edit .f) words) words (requestOf (edit .q)) (entryOf e) p 8192 (b * 8192) ≡ allAre (frameOf (edit .f) words) words (requestOf (edit .q)) (entryOf e) p (8192 - i * PIECE) (b * 8192 + i * PIECE))
+    × (allAre (frameOf (edit .f) words) words (requestOf (edit .q)) (entryOf e) p 8192 (b * 8192) ≡ allAre (frameOf (edit .f) words) words (requestOf (edit .q)) (entryOf e) p (8192 - i * PIECE-PAGES) (b * 8192 + i * PIECE-PAGES))
 
 abbrev μ-loop : tie.MeasureT-loop
 μ-loop edit words e b p i₀ i = PIECES - i
@@ -25,7 +23,7 @@ abbrev μ-loop : tie.MeasureT-loop
 loop-holds : tie.Need-loop-holds Inv-loop μ-loop
 loop-holds c =
     let a = c .before .args in
-    let z : a .b * 8192 ≡ a .b * 8192 + 0 * PIECE = omega arith in
+    let z : a .b * 8192 ≡ a .b * 8192 + 0 * PIECE-PAGES = omega arith in
     (omega arith, ap (allAre (frameOf (a .edit .f) (a .words .now)) (a .words .now) (requestOf (a .edit .q)) (entryOf (a .e)) (a .p) 8192) z)
 
 piece-is-requires : tie.Need-piece-is-requires Inv-loop μ-loop
@@ -62,9 +60,9 @@ returns-2 c =
     let l = c .before in
     let a = l .before .before .args in
     let pre = l .before .before .pre in
-    let z : 8192 - l .loop .i * PIECE ≡ 0 = omega arith in
+    let z : 8192 - l .loop .i * PIECE-PAGES ≡ 0 = omega arith in
     sym (l .loop .inv .1
-    ∙ all-none (frameOf (a .edit .f) (a .words .now)) board-shape (a .words .now) (requestOf (a .edit .q)) (pre .2 .small) (entryOf (a .e)) (pre .3) (a .p) _ (a .b * 8192 + l .loop .i * PIECE) z)
+    ∙ all-none (frameOf (a .edit .f) (a .words .now)) board-shape (a .words .now) (requestOf (a .edit .q)) (pre .2 .small) (entryOf (a .e)) (pre .3) (a .p) _ (a .b * 8192 + l .loop .i * PIECE-PAGES) z)
 
 pub pieces-are-spec : {M : Type 1} → statement M
 pieces-are-spec =

@@ -1,14 +1,12 @@
 -- `forms::pieces::words_are` meets its contract: the entries that are left decide the whole piece.
 use mathlib.Core.Path.{ap₂}
-use mathlib.Core.Path.{_≡_, refl, sym, ap, _∙_}
-use mathlib.Core.Bool.{Bool, true, false}
-use Prim.Native.Nat.{ℕ, _+_, _-_, _*_, _/_, _≤_, _<_}
+use mathlib.Core.Path.{_≡_, sym, ap, _∙_}
+use Prim.Native.Nat.{ℕ, _+_, _-_, _*_, _≤_}
 use native.Mathlib.Omega.{arith}
 use borrow.Author.Needs.{needs}
 use borrow.Author.Tests.{eq-eqb, ne-eqb}
 use lib.Dec.{eqb}
-use lib.ListN.{length}
-use Rattle.table.specs.Board.{board, FIELDS, PIECE, ROW, frameOf}
+use Rattle.table.specs.Board.{board, FIELDS, PIECE-PAGES, PIECE-WORDS, frameOf}
 use Rattle.forms.proofs.BoardShape.{board-shape}
 use Rattle.shapes.proofs.EntryLaws.{word-is, words-next, words-stop, all-none}
 use Rattle.shapes.specs.Words.{spreadOf}
@@ -19,11 +17,11 @@ use Rattle.forms.proofs.pieces.words_are.Tie as tie
 
 abbrev Inv-loop : tie.InvT-loop
 Inv-loop edit words e b i p want j₀ j =
-    (j ≤ ROW) × (want ≡ spreadOf board p)
-    × (allAre (frameOf (edit .f) words) words (requestOf (edit .q)) (entryOf e) p PIECE (b * 8192 + i * FIELDS) ≡ allAre (frameOf (edit .f) words) words (requestOf (edit .q)) (entryOf e) p (PIECE - j * FIELDS) (b * 8192 + (i + j) * FIELDS))
+    (j ≤ PIECE-WORDS) × (want ≡ spreadOf board p)
+    × (allAre (frameOf (edit .f) words) words (requestOf (edit .q)) (entryOf e) p PIECE-PAGES (b * 8192 + i * FIELDS) ≡ allAre (frameOf (edit .f) words) words (requestOf (edit .q)) (entryOf e) p (PIECE-PAGES - j * FIELDS) (b * 8192 + (i + j) * FIELDS))
 
 abbrev μ-loop : tie.MeasureT-loop
-μ-loop edit words e b i p want j₀ j = ROW - j
+μ-loop edit words e b i p want j₀ j = PIECE-WORDS - j
 
 -- what the entry at hand says of its pages
 word-here : (c : tie.After-after-word Inv-loop μ-loop) → let l = c .before .before in let a = l .before .before .before .args in
@@ -43,7 +41,7 @@ loop-holds : tie.Need-loop-holds Inv-loop μ-loop
 loop-holds c =
     let a = c .before .before .args in
     let z : a .b * 8192 + a .i * FIELDS ≡ a .b * 8192 + (a .i + 0) * FIELDS = omega arith in
-    (omega arith, c .spread .ensures, ap (allAre (frameOf (a .edit .f) (a .words .now)) (a .words .now) (requestOf (a .edit .q)) (entryOf (a .e)) (a .p) PIECE) z)
+    (omega arith, c .spread .ensures, ap (allAre (frameOf (a .edit .f) (a .words .now)) (a .words .now) (requestOf (a .edit .q)) (entryOf (a .e)) (a .p) PIECE-PAGES) z)
 
 add-after-word : tie.Need-add-after-word Inv-loop μ-loop
 add-after-word c = omega arith
@@ -83,7 +81,7 @@ returns-2 c =
     let l = c .before in
     let a = l .before .before .before .args in
     let pre = l .before .before .before .pre in
-    let z : PIECE - l .loop .j * FIELDS ≡ 0 = omega arith in
+    let z : PIECE-PAGES - l .loop .j * FIELDS ≡ 0 = omega arith in
     sym (l .loop .inv .2
     ∙ all-none (frameOf (a .edit .f) (a .words .now)) board-shape (a .words .now) (requestOf (a .edit .q)) (pre .3 .small) (entryOf (a .e)) (pre .4) (a .p) _ (a .b * 8192 + (a .i + l .loop .j) * FIELDS) z)
 

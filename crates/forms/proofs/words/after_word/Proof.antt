@@ -1,10 +1,9 @@
 -- `forms::words::after_word` meets its contract: inside the range, outside it, and across an end.
-use mathlib.Core.Path.{_≡_, sym, ap, _∙_, subst}
-use Prim.Native.Nat.{ℕ, _+_, _*_, _/_, _<_, _^_}
-use lib.ListN.{length}
+use mathlib.Core.Path.{ap, _∙_, subst}
+use Prim.Native.Nat.{ℕ, _+_, _*_, _<_}
 use native.Mathlib.Omega.{arith}
 use borrow.Author.Needs.{needs}
-use Rattle.table.specs.Board.{FIELDS, ENTRY, frameOf}
+use Rattle.table.specs.Board.{FIELDS, ENTRY-VALUES, frameOf}
 use Rattle.forms.proofs.BoardShape.{board-shape}
 use Rattle.shapes.proofs.EntryLaws.{word-inside, word-outside, word-across}
 use Rattle.shapes.specs.Words.{mixedAt}
@@ -60,7 +59,7 @@ returns-2 c =
     let pre = c .before .before .before .before .before .pre in
     c .old-word .ensures
     ∙ word-outside (frameOf (a .edit .f) (a .words .now)) board-shape (a .words .now) (requestOf (a .edit .q)) (pre .2 .small) (entryOf (a .e)) (pre .3) (a .b) (a .i) (pre .1)
-    (subst (λ (k : ℕ). k < ENTRY) (c .old-word .ensures) (omega arith))
+    (subst (λ (k : ℕ). k < ENTRY-VALUES) (c .old-word .ensures) (omega arith))
     (rw (c .before .enum-told2 .given .1) at (c .before .before .before .lies .ensures))
 
 returns-3 : tie.Need-returns-3
@@ -71,7 +70,7 @@ returns-3 c =
     c .mixed-word .ensures
     ∙ ap (λ (w : ℕ). pack 16 (mixedAt (requestOf (a .edit .q)) w s) FIELDS s) (c .before .old-word2 .ensures)
     ∙ word-across (frameOf (a .edit .f) (a .words .now)) board-shape (a .words .now) (requestOf (a .edit .q)) (pre .2 .small) (entryOf (a .e)) (pre .3) (a .b) (a .i) (pre .1)
-    (subst (λ (k : ℕ). k < ENTRY) (c .before .old-word2 .ensures) (omega arith))
+    (subst (λ (k : ℕ). k < ENTRY-VALUES) (c .before .old-word2 .ensures) (omega arith))
 
 pub after-word-spec : {M : Type 1} → statement M
 after-word-spec =

@@ -2,7 +2,7 @@
 use mathlib.Core.Path.{ap, ap₂, sym, subst, _∙_, _≡_}
 use Prim.Native.Nat.{ℕ, _<_}
 use native.Mathlib.Omega.{arith}
-use Rattle.table.specs.Board.{ENTRY, FIELDS}
+use Rattle.table.specs.Board.{ENTRY-VALUES, FIELDS}
 use Rattle.shapes.proofs.SpliceLaws.{splice-bits}
 use Rattle.laws.proofs.Splices.{spliced, splice-lt}
 use borrow.Author.Needs.{needs}
@@ -36,7 +36,7 @@ narrow-requires : tie.Need-narrow-requires
 narrow-requires c κs =
     let s = c .before .before .before .before in
     let a = s .args in
-    subst (λ (w : ℕ). w < ENTRY) (sym (same c)) (splice-lt 16 (omega arith) (a .k) FIELDS (a .low) (a .high) (s .pre) (omega arith))
+    subst (λ (w : ℕ). w < ENTRY-VALUES) (sym (same c)) (splice-lt 16 (omega arith) (a .k) FIELDS (a .low) (a .high) (s .pre) (omega arith))
 
 returns-2 : tie.Need-returns-2
 returns-2 c = c .narrow .ensures ∙ same (c .before)

@@ -8,13 +8,13 @@ use Rattle.slots.specs.Zeroed.{zeroed}
 use Rattle.slots.proofs.Zeroes.{left, left-all, left-next, left-none}
 use Rattle.slots.proofs.page.zero_page.Statement.{statement}
 use Rattle.slots.proofs.page.zero_page.Tie as tie
-use Rattle.table.specs.Board.{WORDS}
+use Rattle.table.specs.Board.{PAGE-WORDS}
 
 abbrev Inv-loop : tie.InvT-loop
-Inv-loop words₀ at i₀ words i = (i ≤ WORDS) × (at + WORDS ≤ length words) × (length words ≡ length words₀) × (zeroed words₀ at ≡ left words at i)
+Inv-loop words₀ at i₀ words i = (i ≤ PAGE-WORDS) × (at + PAGE-WORDS ≤ length words) × (length words ≡ length words₀) × (zeroed words₀ at ≡ left words at i)
 
 abbrev μ-loop : tie.MeasureT-loop
-μ-loop words₀ at i₀ words i = WORDS - i
+μ-loop words₀ at i₀ words i = PAGE-WORDS - i
 
 loop-holds : tie.Need-loop-holds Inv-loop μ-loop
 loop-holds c = (omega arith, omega arith, refl, left-all _ _)
@@ -35,7 +35,7 @@ loop-again : tie.Need-loop-again Inv-loop μ-loop
 loop-again c = let l = c .before .before .before .before .before in
     let a = l .before .before .args in
     let e = c .before .before .store-word .ensures in
-    let h : l .loop .i < WORDS = omega arith in
+    let h : l .loop .i < PAGE-WORDS = omega arith in
     let n = ap length e ∙ length-set (l .loop .words) (a .at + l .loop .i) 0 in (
       omega arith,
       omega (arith, n),
@@ -50,7 +50,7 @@ same-length c = omega arith
 
 returns : tie.Need-returns Inv-loop μ-loop
 returns c = let l = c .before in
-    let h : WORDS ≤ l .loop .i = omega arith in
+    let h : PAGE-WORDS ≤ l .loop .i = omega arith in
     sym (l .loop .inv .3 ∙ left-none _ _ _ h)
 
 pub zero-page-spec : {M : Type 1} → statement M

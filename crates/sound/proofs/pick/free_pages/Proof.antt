@@ -1,6 +1,6 @@
 -- `sound::pick::free_pages` meets its contract: two searches, the second from behind the first page found.
 use mathlib.Core.Path.{_≡_, sym, ap, _∙_}
-use mathlib.Core.List.{List, [], _∷_, headD}
+use mathlib.Core.List.{List, _∷_, headD}
 use Prim.Native.Nat.{ℕ, _+_, _-_, _/_, _≤_, _<_, _^_}
 use native.Mathlib.Omega.{arith}
 use Rattle.laws.proofs.Frames.{bounds, few-pages}

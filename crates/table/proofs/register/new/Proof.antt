@@ -1,5 +1,4 @@
 -- `table::register::new` meets its contract: the fields stand apart, so that their sum is the register and fits a word.
-use native.Mathlib.Omega.{arith}
 use borrow.Author.Needs.{needs}
 use Rattle.model.specs.Register.{registerOf}
 use Rattle.table.proofs.register.new.Statement.{statement}

@@ -1,5 +1,4 @@
 -- `types::blocks::needs_page` meets its contract: case by case of form and entry, as the definition goes.
-use mathlib.Core.Path.{_≡_, refl, sym, ap, _∙_}
 use borrow.Author.Needs.{needs}
 use Rattle.model.specs.Stores.{needsPage}
 use Rattle.types.proofs.blocks.needs_page.Statement.{statement}

@@ -1,5 +1,5 @@
 -- `types::blocks::next_page` meets its contract: by what `needs_page` says.
-use mathlib.Core.Path.{_≡_, refl, sym, ap, _∙_}
+use mathlib.Core.Path.{sym, _∙_}
 use borrow.Author.Needs.{needs}
 use Rattle.types.proofs.blocks.next_page.Statement.{statement}
 use Rattle.types.proofs.blocks.next_page.Tie as tie

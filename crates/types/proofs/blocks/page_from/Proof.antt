@@ -1,8 +1,8 @@
 -- `types::blocks::page_from` meets its contract: the first two pages, as many as there are.
-use mathlib.Core.Path.{_≡_, sym, ap, _∙_}
+use mathlib.Core.Path.{sym, ap, _∙_}
 use mathlib.Core.Logic.{_≢_}
-use mathlib.Core.List.{List, headD}
-use Prim.Native.Nat.{ℕ, _<_}
+use mathlib.Core.List.{headD}
+use Prim.Native.Nat.{ℕ}
 use native.Mathlib.Omega.{arith}
 use lib.ListN.{drop}
 use Rattle.types.specs.Views.{freeList}

@@ -12,7 +12,7 @@ use Rattle.model.specs.Forms.{Request}
 use Rattle.model.specs.Stores.{Store, apply}
 use Rattle.model.specs.Fence as model
 use Rattle.types.specs.Views.{fenceOf}
-use Rattle.types.specs.declared.Made.{Made}
+use Rattle.types.specs.declared.StoresMade.{StoresMade}
 
 -- the fence, from what the code counts: how many stores, whether that was all, and where the last one went
 unfoldable pub fenceAfter : Frame → Request → ℕ → ℕ → ℕ → Bool → ℕ → model.Fence
@@ -22,7 +22,7 @@ fenceAfter F q root sdid count all at =
     model.domainFence sdid
 
 -- the first stores of the list up to the limit are made, and the answer says so
-pub record IsMade (F : Frame) (q : Request) (root sdid : ℕ) (whole : List Store) (limit : ℕ) (m m′ : List ℕ) (r : Made) : Type 0 where
+pub record IsMade (F : Frame) (q : Request) (root sdid : ℕ) (whole : List Store) (limit : ℕ) (m m′ : List ℕ) (r : StoresMade) : Type 0 where
   pub memory : m′ ≡ apply (take limit whole) m
   pub count : r .count ≡ length (take limit whole)
   pub all : r .all ≡ leb (length whole) limit

@@ -1,10 +1,10 @@
--- `edit::fence_of` meets its contract: the code's tests are those of the definition, in its order.
+-- `edit::fence_after` meets its contract: the code's tests are those of the definition, in its order.
 use mathlib.Core.Path.{sym, _∙_}
 use borrow.Author.Tests.{eq-eqb, ne-eqb, not-true, not-false}
 use borrow.Author.Needs.{needs}
-use Rattle.sequence.specs.Made.{fenceAfter}
-use Rattle.edit.proofs.fence_of.Statement.{statement}
-use Rattle.edit.proofs.fence_of.Tie as tie
+use Rattle.sequence.specs.StoresMade.{fenceAfter}
+use Rattle.edit.proofs.fence_after.Statement.{statement}
+use Rattle.edit.proofs.fence_after.Tie as tie
 
 returns : tie.Need-returns
 unfolding fenceAfter
@@ -33,6 +33,6 @@ returns-6 : tie.Need-returns-6
 unfolding fenceAfter
 returns-6 c = rw (ne-eqb _ 0 (c .before .before .before .before .before .before .before .if1 .left), eq-eqb _ 4096 (c .before .before .before .before .before .if2 .left), eq-eqb _ 1 (c .before .before .before .before .if3 .left), not-false (c .before .before .before .before .before .before .before .before .before .args .all) (c .before .before .before .if4 .left), sym (c .before .before .in-root .ensures) ∙ c .before .if5 .left)
 
-pub fence-of-spec : {M : Type 1} → statement M
-fence-of-spec =
+pub fence-after-spec : {M : Type 1} → statement M
+fence-after-spec =
     tie.close (tie.spec returns returns-2 returns-3 returns-4 in-root-requires returns-5 returns-6)
