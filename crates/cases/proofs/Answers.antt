@@ -11,7 +11,7 @@ use Rattle.model.specs.Calls.{refusedWith, closed, edited, rootOf, finished, st
 use Rattle.laws.proofs.PageRuns.{quickForms, forms-quick}
 use Rattle.cases.specs.Bench.{bench, smallBench, badBench, none, readWrite, ask, askOf, most, opens, closes, closesOn, look, lookBy, eightBytes, freePagesOf, wordsStored, topDigit, wpriSet, pastTheBlocks}
 use Rattle.cases.proofs.Sounds.{quickSound, sound-quick}
-use Rattle.cases.proofs.Calls.{held-is-8, full-is-7}
+use Rattle.cases.proofs.QuickCalls.{held-is-8, full-is-7}
 use Rattle.cases.proofs.Compute.{compute, pos, quick}
 use Rattle.cases.proofs.States.{slots5, memoryNew, outcomeNew, memoryC, outcomeC, memoryG, outcomeG, outcome512, outcome513, outcomeK1, outcomeK2, outcomeL, outcomeN, outcomeO}
 

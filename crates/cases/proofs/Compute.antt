@@ -21,9 +21,9 @@ use Rattle.laws.proofs.Peeks.{parts, pageParts, peek}
 use Rattle.laws.proofs.PageRuns.{covers, misses, says, quickAfter, allOne, saysOne, alike, runIs, gibBy, formBy, formsInBy, formsBy, quickForms}
 use Rattle.cases.specs.Bench.{opens, edits}
 use Rattle.cases.proofs.Passes.{pass, passes, pasted}
-use Rattle.cases.proofs.Stores.{quickWord, quickSame, quickNew, quickLink, quickBlock, quickStores}
+use Rattle.cases.proofs.QuickStores.{quickWord, quickSame, quickNew, quickLink, quickBlock, quickStores}
 use Rattle.cases.proofs.Sounds.{quickClean, quickEntry, quickSound}
-use Rattle.cases.proofs.Calls.{quickRefusal, quickList, quickMade, quickWith, edit-is-quick, quickOpenAt, quickOpen, open-is-quick}
+use Rattle.cases.proofs.QuickCalls.{quickRefusal, quickList, quickMade, quickWith, edit-is-quick, quickOpenAt, quickOpen, open-is-quick}
 
 -- to unfold this is to unfold all that it names
 unfoldable pub compute : Unit {0}

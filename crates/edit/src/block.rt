@@ -31,7 +31,7 @@ ghost use mathlib.Core.Bool.{true, false};
 ghost use mathlib.Core.List.{List, headD};
 ghost use Prim.Native.Nat.{_+_, _-_, _*_, _/_, _%_, _≤_, _<_, _^_};
 ghost use lib.ListN.{drop};
-ghost use Rattle.sequence.specs.Blocks.{HasNewPage};
+ghost use Rattle.sequence.specs.Prepared.{HasNewPage};
 ghost use Rattle.sequence.specs.GibBlocks.{Advanced};
 ghost use Rattle.shapes.specs.Blocks.{Encodes, storesOver};
 ghost use Rattle.shapes.specs.Ahead.{Ahead};

@@ -22,7 +22,7 @@ use types::pages::PAGE_BYTES;
 ghost use mathlib.Core.Path.{_≡_};
 ghost use mathlib.Core.Bool.{true};
 ghost use Rattle.sequence.specs.StoresMade.{fenceAfter, IsMade};
-ghost use Rattle.sequence.specs.Blocks.{Prepared, wholeList};
+ghost use Rattle.sequence.specs.Prepared.{Prepared, wholeList};
 ghost use Rattle.shapes.specs.Run.{out, run};
 ghost use Rattle.model.specs.Fence.{inRoot};
 ghost use Rattle.model.specs.Frame.{lent, boundsOk};

@@ -14,7 +14,7 @@ use Rattle.model.specs.Stores.{Store, newPages}
 use Rattle.model.specs.Calls.{Outcome, edited, firstMet, registerFor, rootOf, refuse, badRange, meetsLent, finished, editRefusalWith, editRefusal, storeList, made, editWith, editSlot}
 use Rattle.types.specs.declared.StoresMade.{StoresMade}
 use Rattle.sequence.specs.StoresMade.{IsMade}
-use Rattle.slots.specs.Named.{notOpen}
+use Rattle.shapes.specs.Slots.{notOpen}
 use Rattle.slots.specs.Outcomes.{outcomeOf}
 use Rattle.slots.specs.declared.Outcome as code
 use Rattle.types.specs.declared.Reply.the-variants.{Edited}

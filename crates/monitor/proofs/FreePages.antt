@@ -8,7 +8,7 @@ use lib.ListN.{length, take, length-take}
 use borrow.Author.Tests.{ltb-true, ltb-false, lt-ltb, le-ltb}
 use Rattle.types.specs.Views.{freeList}
 use Rattle.laws.proofs.Choices.{split}
-use Rattle.scan.specs.Free.{listed}
+use Rattle.scan.specs.FreeMarks.{listed}
 
 -- the front of their list
 pub listed-front : (pages : List ℕ) → freeList (listed pages) ≡ take 2 pages

@@ -16,7 +16,7 @@ use Rattle.theory.proofs.Frames.{frame-ok}
 use Rattle.theory.proofs.Tables.{to-sound}
 use Rattle.theory.proofs.Domains.{open-domain, domain-root}
 use Rattle.shapes.proofs.SoundRoots.{sound-rooted}
-use Rattle.slots.specs.Named.{notOpen}
+use Rattle.shapes.specs.Slots.{notOpen}
 use Rattle.table.specs.Board.{frameOf}
 use Rattle.range.proofs.Lawful.{board-lawful}
 

@@ -6,8 +6,8 @@ use Prim.Native.Nat.{ℕ, _<_}
 use Rattle.model.specs.Forms.{Request}
 use Rattle.model.specs.Frame.{Frame, frameOk}
 use Rattle.model.specs.Sound.{Slot, roots, sound, freePages}
-use Rattle.scan.specs.Free.{clearPages}
-use Rattle.slots.specs.Named.{notOpen}
+use Rattle.scan.specs.FreeMarks.{clearPages}
+use Rattle.shapes.specs.Slots.{notOpen}
 
 abbrev pub requestFrom : ℕ → ℕ → ℕ → ℕ → Request
 requestFrom slot start length permission = record { slot = slot; start = start; size = length; permission = permission }

@@ -1,4 +1,4 @@
 --   Lawful     the layout of this board is lawful
---   Ends       the ends of a range and of the lent pages
+--   RangeEnds  the ends of a range and of the lent pages
 pub mod Lawful
-pub mod Ends
+pub mod RangeEnds

@@ -15,7 +15,7 @@ use Rattle.types.specs.declared.Admission.the-variants.{Granted, Refused}
 use Rattle.types.specs.declared.Refusal.{Refusal}
 use Rattle.types.specs.declared.Refusal.the-variants as refusal
 use Rattle.types.specs.Views.{refusalNumber}
-use Rattle.laws.proofs.Frames.{framed, bounds}
+use Rattle.laws.proofs.FrameNumbers.{framed, bounds}
 use Rattle.scan.specs.Admission.{admissionOf, AdmissionIs, Admitted}
 use Rattle.scan.proofs.Laws.{clear-is-free}
 

@@ -9,7 +9,7 @@ use lib.Dec.{eqb}
 use lib.ListN.{getD}
 use borrow.Author.Tests.{eqb-true, eqb-false}
 use Rattle.model.specs.Numbers.{if_then_else_, joined}
-use Rattle.scan.specs.Free.{clearAt, withPage}
+use Rattle.scan.specs.FreeMarks.{clearAt, withPage}
 
 -- what the search has passed, one place further
 pub marked-on : (k : List Bool) (from i : ℕ) → ((x : ℕ) → from ≤ x → x < i → getD k x false ≡ true) → getD k i false ≡ true → (x : ℕ) → from ≤ x → x < i + 1 → getD k x false ≡ true

@@ -13,8 +13,8 @@ use Rattle.model.specs.Sound.{Slot, roots, used, soundSlots, soundTable, sound,
 use Rattle.laws.proofs.Choices.{and-true}
 use Rattle.laws.proofs.Lists.{each-step, each-append, joined-cong}
 use Rattle.scan.specs.Scan.{marksOf}
-use Rattle.scan.specs.Free.{clearPages}
-use Rattle.scan.proofs.Pages.{used-lent, marked-member}
+use Rattle.scan.specs.FreeMarks.{clearPages}
+use Rattle.scan.proofs.UsedPages.{used-lent, marked-member}
 
 -- ---- a free page is lent
 

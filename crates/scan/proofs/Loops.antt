@@ -9,7 +9,7 @@ use native.Mathlib.Omega.{arith}
 use lib.ListN.{length, getD, drop, drop-of-length-le}
 use lib.Seq.{drop-cons}
 use Rattle.model.specs.Frame.{Frame, lent, indexOf}
-use Rattle.laws.proofs.Frames.{entry-at}
+use Rattle.laws.proofs.FrameNumbers.{entry-at}
 use Rattle.scan.specs.Scan.{Scan, unsound, marked, thenScan, scanAll, scanRun, claimOf, entryStep, wordStep, blockStep}
 
 module _ (step : List Bool → ℕ → Scan) (k : List Bool) where

@@ -16,10 +16,10 @@ use Rattle.model.specs.Frame.{Frame, boundsOk, blocks, lent}
 use Rattle.model.specs.Walk.{rootPages, entryAt}
 use Rattle.model.specs.Sound.{Slot, register, isOpen, openRegisters, linkOf, roots, sdids, linksIn, used, cleanPage, soundEntry, soundRegister, soundRoot, soundSlots, soundTable}
 use Rattle.laws.proofs.Lists.{each-step}
-use Rattle.laws.proofs.Frames.{bounds}
+use Rattle.laws.proofs.FrameNumbers.{bounds}
 use Rattle.scan.specs.Scan.{Scan, unsound, marked, answer, thenScan, scanAll, markOf, registerStep, claimOf, marksOf, linkStep, entryStep, blockStep, rootStep, slotStep}
 use Rattle.scan.proofs.Marks.{claimAll, then-unsound, then-marked, then-same, spread, all-claims, run-claims, setAll, claims}
-use Rattle.scan.proofs.Pages.{place, used-lent, place-distinct, marks-at-places, places-low}
+use Rattle.scan.proofs.UsedPages.{place, used-lent, place-distinct, marks-at-places, places-low}
 
 -- a pass over all slots is one over the registers of the open ones
 pass-opened : (step inner : List Bool → ℕ → Scan) → ((k : List Bool) (s : Slot) → step k s ≡ (if isOpen s then inner k (register s) else marked k))

@@ -10,7 +10,7 @@ use Rattle.types.specs.declared.Admission.{Admission}
 use Rattle.types.specs.declared.Admission.the-variants.{Granted, Refused}
 use Rattle.types.specs.declared.Refusal.the-variants as refusal
 use Rattle.scan.specs.Scan.{marksOf}
-use Rattle.scan.specs.Free.{clearPages}
+use Rattle.scan.specs.FreeMarks.{clearPages}
 
 module _ (F : Frame) (m : List ℕ) (slots : List Slot) where
   -- 1: "frame breaks its bounds"; 3: "table not sound"

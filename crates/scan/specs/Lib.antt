@@ -1,6 +1,6 @@
 --   Scan        the pass over a table as the code makes it, with marks
---   Free        the free pages by the marks alone
+--   FreeMarks   the free pages by the marks alone
 --   Admission   what each call but a lookup asks first, and what stands once neither refusal fits
 pub mod Scan
-pub mod Free
+pub mod FreeMarks
 pub mod Admission

@@ -28,7 +28,7 @@ use Rattle.shapes.specs.Rooted.{Rooted}
 use Rattle.shapes.proofs.Order.{Remaining, remaining-start}
 use Rattle.shapes.proofs.PageLaws.{stores-same}
 use Rattle.shapes.proofs.SoundRoots.{sound-rooted}
-use Rattle.sequence.specs.Blocks.{wholeList}
+use Rattle.sequence.specs.Prepared.{wholeList}
 use Rattle.sequence.proofs.Facts.{Facts}
 
 module _ {F : Frame} {m0 : List ℕ} {q : Request} {root : ℕ} {free : List ℕ} (k : Facts F m0 q root free) where

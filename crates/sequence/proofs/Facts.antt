@@ -6,7 +6,7 @@ use mathlib.Core.List.{List}
 use Prim.Native.Nat.{ℕ, _+_, _*_, _^_, _≤_, _<_, min, _%_}
 use native.Mathlib.Omega.{arith}
 use lib.ListN.{length, take, drop, length-take, take-append-drop}
-use Rattle.sequence.specs.Blocks.{Prepared, wholeList}
+use Rattle.sequence.specs.Prepared.{Prepared, wholeList}
 use Rattle.shapes.specs.Ahead.{Ahead}
 use Rattle.shapes.proofs.Order.{ahead-of, ahead-start}
 use Rattle.laws.proofs.Choices.{and-true}
@@ -17,7 +17,7 @@ use Rattle.model.specs.Walk.{entryPage}
 use Rattle.model.specs.Layout.{pageBytes, gibBlocks}
 use lib.Pow.{pow-mono}
 use Rattle.shapes.proofs.Shape.{Shape}
-use Rattle.sequence.proofs.Answers.{list-is}
+use Rattle.sequence.proofs.CountAndFence.{list-is}
 use Rattle.laws.proofs.Sums.{times-measure}
 use Rattle.theory.proofs.NewPages.{two-pages}
 use Rattle.laws.proofs.Times.{times, times-append}

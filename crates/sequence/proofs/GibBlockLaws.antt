@@ -19,7 +19,7 @@ use Rattle.types.specs.declared.Gib.{Gib}
 use Rattle.shapes.specs.Blocks.{GibIs, formAt, storesAt, storesOver, pagesOver}
 use Rattle.shapes.specs.Run.{Out, allMade, limitReached, run}
 use Rattle.shapes.proofs.Runs.{run-none, run-on, run-off}
-use Rattle.sequence.specs.Blocks.{wholeList}
+use Rattle.sequence.specs.Prepared.{wholeList}
 use Rattle.sequence.proofs.AtBlock.{AtBlock}
 use Rattle.sequence.proofs.Facts.{Facts}
 use Rattle.sequence.proofs.NextBlock.{at-block-cut, at-block-next, pages-left}

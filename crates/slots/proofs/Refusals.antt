@@ -17,8 +17,8 @@ use Rattle.types.specs.declared.Refusal.{Refusal}
 use Rattle.types.specs.Views.{refusalNumber}
 use Rattle.scan.specs.Admission.{admissionOf}
 use Rattle.scan.proofs.Admissions.{not-admitted}
-use Rattle.slots.specs.Zeroed.{zeroed}
-use Rattle.slots.specs.Named.{notOpen, notEmpty, badSdid}
+use Rattle.slots.specs.ZeroPage.{zeroed}
+use Rattle.shapes.specs.Slots.{notOpen, notEmpty, badSdid}
 use Rattle.table.specs.Board.{board, frameOf}
 
 module _ (f : Frame) (m : List ℕ) (slots : List Slot) (s : ℕ) where
@@ -45,11 +45,11 @@ module _ (f : Frame) (m : List ℕ) (slots : List Slot) (s : ℕ) where
         open-slot h = rw (one, three, h)
 
         module _ (four : notEmpty slots s ≡ false) where
-          pub open-sdid : badSdid slots sdid ≡ true → openSlot F m slots s sdid ≡ refuse F m slots 8
+          pub open-sdid : badSdid board slots sdid ≡ true → openSlot F m slots s sdid ≡ refuse F m slots 8
           unfolding openSlot openRefusal firstMet sdids
           open-sdid h = rw (one, three, four, h)
 
-          module _ (eight : badSdid slots sdid ≡ false) where
+          module _ (eight : badSdid board slots sdid ≡ false) where
             pub open-no-room : eqb (length (freePages F m (roots F slots))) 0 ≡ true → openSlot F m slots s sdid ≡ refuse F m slots 7
             unfolding openSlot openRefusal firstMet sdids
             open-no-room h = rw (one, three, four, eight, h)

@@ -7,16 +7,16 @@ use lib.ListN.{length, getD, drop}
 use Rattle.model.specs.Numbers.{member}
 use Rattle.model.specs.Sound.{Slot}
 use Rattle.shapes.proofs.SlotLaws as laws
-use Rattle.slots.specs.Named.{holds, openSdids}
+use Rattle.shapes.specs.Slots.{holds, openSdids}
 use Rattle.table.specs.Board.{board}
 pub use Rattle.shapes.proofs.SlotLaws.{slot-low, sdid-low}
 
 module _ (sdid : ℕ) (slots : List Slot) (i : ℕ) where
-  pub held-here : i < length slots → holds (getD slots i 0) sdid ≡ true → member sdid (openSdids (drop i slots)) ≡ true
+  pub held-here : i < length slots → holds board (getD slots i 0) sdid ≡ true → member sdid (openSdids board (drop i slots)) ≡ true
   held-here = laws.held-here board sdid slots i
 
-  pub held-later : i < length slots → holds (getD slots i 0) sdid ≡ false → member sdid (openSdids (drop i slots)) ≡ member sdid (openSdids (drop (i + 1) slots))
+  pub held-later : i < length slots → holds board (getD slots i 0) sdid ≡ false → member sdid (openSdids board (drop i slots)) ≡ member sdid (openSdids board (drop (i + 1) slots))
   held-later = laws.held-later board sdid slots i
 
-  pub held-by-none : length slots ≤ i → member sdid (openSdids (drop i slots)) ≡ false
+  pub held-by-none : length slots ≤ i → member sdid (openSdids board (drop i slots)) ≡ false
   held-by-none = laws.held-by-none board sdid slots i

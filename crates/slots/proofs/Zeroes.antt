@@ -4,7 +4,7 @@ use mathlib.Core.List.{List}
 use Prim.Native.Nat.{ℕ, _+_, _≤_, _<_}
 use lib.ListN.{set}
 use Rattle.shapes.proofs.SlotLaws as laws
-use Rattle.slots.specs.Zeroed.{zeroed}
+use Rattle.slots.specs.ZeroPage.{zeroed}
 use Rattle.table.specs.Board.{PAGE-WORDS}
 
 -- the words from word i of the page on

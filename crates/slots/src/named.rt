@@ -4,7 +4,8 @@ use table::register;
 use types::Sdid;
 ghost use mathlib.Core.Path.{_≡_};
 ghost use Rattle.model.specs.Numbers.{member};
-ghost use Rattle.slots.specs.Named as spec;
+ghost use Rattle.table.specs.Board.{board};
+ghost use Rattle.shapes.specs.Slots as spec;
 
 // The "eight slots", and an SDID of six bits.
 const SLOTS: u64 = 8;
@@ -35,7 +36,7 @@ pub fn not_empty(slots: [Word; 8], slot: u64) -> bool
 
 // A slot is open with this SDID. SDID 0 is held like any other: what says that a slot is empty is its whole register.
 fn holds(slot: Word, sdid: Sdid) -> bool
-    ensures { λ r. ⌜ r ≡ spec.holds slot (sdid .0) ⌝ }
+    ensures { λ r. ⌜ r ≡ spec.holds board slot (sdid .0) ⌝ }
 {
     if slot == 0 {
         return false;
@@ -44,7 +45,7 @@ fn holds(slot: Word, sdid: Sdid) -> bool
 }
 
 fn held(slots: [Word; 8], sdid: Sdid) -> bool
-    ensures { λ r. ⌜ r ≡ member (sdid .0) (spec.openSdids slots) ⌝ }
+    ensures { λ r. ⌜ r ≡ member (sdid .0) (spec.openSdids board slots) ⌝ }
 {
     for i in 0..8usize {
         if holds(slots[i], sdid) {
@@ -56,7 +57,7 @@ fn held(slots: [Word; 8], sdid: Sdid) -> bool
 
 // "SDID above 63 or held by another open slot"
 pub fn bad_sdid(slots: [Word; 8], sdid: Sdid) -> bool
-    ensures { λ r. ⌜ r ≡ spec.badSdid slots (sdid .0) ⌝ }
+    ensures { λ r. ⌜ r ≡ spec.badSdid board slots (sdid .0) ⌝ }
 {
     let number = sdid.0;
     if MAX_SDID < number {

@@ -5,7 +5,7 @@ use table::store::store_word;
 ghost use mathlib.Core.Path.{_≡_};
 ghost use Prim.Native.Nat.{_+_, _≤_};
 ghost use lib.ListN.{length};
-ghost use Rattle.slots.specs.Zeroed.{zeroed};
+ghost use Rattle.slots.specs.ZeroPage.{zeroed};
 ghost use Rattle.table.specs.Board.{PAGE-WORDS};
 
 // The 512 words from at, one store each.

@@ -9,7 +9,7 @@ ghost use Prim.Native.Nat.{ℕ, _≤_, _<_};
 ghost use lib.ListN.{getD};
 ghost use Rattle.model.specs.Frame.{boundsOk};
 ghost use Rattle.table.specs.Board.{frameOver};
-ghost use Rattle.scan.specs.Free.{clearPages, listed};
+ghost use Rattle.scan.specs.FreeMarks.{clearPages, listed};
 
 // The first of the places from `from` up to `pages` that has no mark; `pages` if each has one.
 fn next_clear(used: &[bool; 256], from: usize, pages: usize) -> usize

@@ -35,7 +35,7 @@
 --   Demands      demands 2 and 3
 -- For the code
 -- Opening and closing
---   Slots        one slot changes
+--   OneSlot      one slot changes
 --   Zeroed       a page that is zeroed
 --   Registers    a register that opening makes
 --   Opening      a table with one root more, or one less
@@ -68,7 +68,7 @@ pub mod Ends
 pub mod Counts
 pub mod NewPages
 pub mod Demands
-pub mod Slots
+pub mod OneSlot
 pub mod Zeroed
 pub mod Registers
 pub mod Opening

@@ -30,7 +30,7 @@ use Rattle.theory.proofs.Tables.{Sound, from-sound, to-sound}
 use Rattle.theory.proofs.Free.{free-in, not-member}
 use Rattle.theory.proofs.Domains.{domain-root, same-read}
 use Rattle.theory.proofs.Accepts.{first-none}
-use Rattle.theory.proofs.Slots.{cell-open, cell-shut, image-times, image-total, slot-change}
+use Rattle.theory.proofs.OneSlot.{cell-open, cell-shut, image-times, image-total, slot-change}
 use Rattle.theory.proofs.Zeroed.{zeroFrom}
 use Rattle.theory.proofs.Registers.{register-mode, register-open, register-ppn, register-sdid, register-wpri}
 use Rattle.theory.proofs.Opening.{OneMore, less-sound, more-sound, more-walks, new-walks}

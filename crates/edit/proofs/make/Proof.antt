@@ -6,12 +6,12 @@ use Prim.Native.Nat.{_-_}
 use native.Mathlib.Omega.{arith}
 use Rattle.model.specs.Frame.{Frame, lent, boundsOk}
 use borrow.Author.Needs.{needs}
-use Rattle.sequence.proofs.Answers.{all-fits, all-memory, all-count, all-true, all-fence, cut-memory, cut-count, cut-false, cut-fence}
+use Rattle.sequence.proofs.CountAndFence.{all-fits, all-memory, all-count, all-true, all-fence, cut-memory, cut-count, cut-false, cut-fence}
 use Rattle.forms.proofs.BoardShape.{board-shape}
 use Rattle.sequence.proofs.Facts.{root-lent, bounds-in}
 use Rattle.shapes.proofs.Runs.{out-whole, out-cut}
 use Rattle.sequence.specs.StoresMade.{fenceAfter}
-use Rattle.sequence.specs.Blocks.{wholeList}
+use Rattle.sequence.specs.Prepared.{wholeList}
 use Rattle.shapes.specs.Run.{allMade, limitReached, run}
 use Rattle.model.specs.Stores.{Store}
 use Rattle.types.specs.Views.{fenceOf, requestOf, freeList}

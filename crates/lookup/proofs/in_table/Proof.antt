@@ -7,7 +7,7 @@ use Rattle.model.specs.Entry.{fieldOf}
 use Rattle.model.specs.Frame.{wordAt}
 use Rattle.model.specs.Walk.{found}
 use Rattle.table.specs.Board.{board, frameOf}
-use Rattle.laws.proofs.Frames.{word-at}
+use Rattle.laws.proofs.FrameNumbers.{word-at}
 use Rattle.lookup.proofs.in_table.Statement.{statement}
 use Rattle.lookup.proofs.in_table.Tie as tie
 

@@ -8,7 +8,7 @@ use Rattle.model.specs.Register.{registerOk}
 use Rattle.model.specs.Frame.{frameOk}
 use Rattle.model.specs.Lookup.{lookup, reads}
 use Rattle.table.specs.Board.{board, frameOf}
-use Rattle.laws.proofs.Frames.{framed}
+use Rattle.laws.proofs.FrameNumbers.{framed}
 use Rattle.lookup.proofs.lookup.Statement.{statement}
 use Rattle.lookup.proofs.lookup.Tie as tie
 

@@ -14,12 +14,12 @@ use Rattle.model.specs.Sound.{roots, freePages}
 use Rattle.model.specs.Forms.{Request}
 use Rattle.model.specs.Stores.{Store}
 use Rattle.model.specs.Calls.{slotAt, registerFor, rootOf, refuse, badRange, meetsLent, editRefusal, storeList}
-use Rattle.laws.proofs.Frames.{framed}
+use Rattle.laws.proofs.FrameNumbers.{framed}
 use Rattle.types.specs.declared.Free.{Free}
-use Rattle.scan.specs.Free.{listed}
+use Rattle.scan.specs.FreeMarks.{listed}
 use Rattle.types.specs.Views.{requestOf, freeList}
 use Rattle.shapes.specs.Blocks.{wholePages}
-use Rattle.sequence.specs.Blocks.{Prepared}
+use Rattle.sequence.specs.Prepared.{Prepared}
 use Rattle.sequence.specs.StoresMade.{IsMade}
 use Rattle.forms.proofs.BoardShape.{board-shape}
 use Rattle.sequence.proofs.Facts.{accepted-list}

@@ -7,7 +7,7 @@ use borrow.Author.Needs.{needs}
 use Rattle.model.specs.Calls.{slotAt, refuse}
 use Rattle.scan.specs.Admission.{Admitted}
 use Rattle.scan.proofs.Admissions.{admitted}
-use Rattle.slots.specs.Named.{notOpen}
+use Rattle.shapes.specs.Slots.{notOpen}
 use Rattle.slots.specs.Outcomes.{outcomeOf}
 use Rattle.slots.specs.declared.Outcome.{Outcome}
 use Rattle.slots.proofs.Refusals.{close-not-admitted, close-slot, close-done}

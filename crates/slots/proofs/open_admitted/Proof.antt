@@ -13,16 +13,16 @@ use Rattle.model.specs.Frame.{Frame, lent}
 use Rattle.model.specs.Sound.{roots, used, freePages}
 use Rattle.model.specs.Calls as calls
 use Rattle.model.specs.Calls.{refuse}
-use Rattle.laws.proofs.Frames.{framed}
+use Rattle.laws.proofs.FrameNumbers.{framed}
 use Rattle.types.specs.declared.Free.{Free}
-use Rattle.scan.specs.Free.{listed}
+use Rattle.scan.specs.FreeMarks.{listed}
 use Rattle.scan.proofs.Laws.{free-lent, head-lent}
-use Rattle.slots.specs.Named.{notEmpty, badSdid}
+use Rattle.shapes.specs.Slots.{notEmpty, badSdid}
 use Rattle.slots.proofs.Refusals.{open-slot, open-sdid, open-no-room, open-done}
 use Rattle.slots.proofs.Sdids.{slot-low, sdid-low}
 use Rattle.slots.proofs.open_admitted.Statement.{statement}
 use Rattle.slots.proofs.open_admitted.Tie as tie
-use Rattle.table.specs.Board.{frameOf}
+use Rattle.table.specs.Board.{board, frameOf}
 
 abbrev frameAt : tie.Start → Frame
 frameAt s = frameOf (s .args .f) (now (s .args .words))
@@ -34,7 +34,7 @@ pagesAt s = freePages (frameAt s) (now (s .args .words)) (roots (frameAt s) (s .
 slot-passes : (c : tie.Else1) → let a = c .before .before .before .args in notEmpty (a .slots) (a .slot) ≡ false
 slot-passes c = sym (c .before .not-empty .ensures) ∙ c .if1 .left
 
-sdid-passes : (c : tie.Else2) → let a = c .before .before .before .before .before .args in badSdid (a .slots) (a .sdid .0) ≡ false
+sdid-passes : (c : tie.Else2) → let a = c .before .before .before .before .before .args in badSdid board (a .slots) (a .sdid .0) ≡ false
 sdid-passes c = sym (c .before .bad-sdid .ensures) ∙ c .if2 .left
 
 -- what is picked from the marks are the free pages

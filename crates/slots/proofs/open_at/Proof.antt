@@ -8,8 +8,8 @@ use denote.Ref.{now}
 use borrow.Author.Needs.{needs}
 use Rattle.model.specs.Fence.{noFence}
 use Rattle.model.specs.Calls as calls
-use Rattle.laws.proofs.Frames.{bounds, lent-in, few-pages}
-use Rattle.slots.specs.Zeroed.{zeroed}
+use Rattle.laws.proofs.FrameNumbers.{bounds, lent-in, few-pages}
+use Rattle.slots.specs.ZeroPage.{zeroed}
 use Rattle.slots.proofs.Refusals.{opened-at}
 use Rattle.slots.proofs.open_at.Statement.{statement}
 use Rattle.slots.proofs.open_at.Tie as tie

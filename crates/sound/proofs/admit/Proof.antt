@@ -7,7 +7,7 @@ use borrow.Author.Tests.{not-true, not-false}
 use borrow.Author.Needs.{needs}
 use Rattle.model.specs.Frame.{frameOk}
 use Rattle.model.specs.Sound.{roots, used, soundSlots, soundTable, sound}
-use Rattle.laws.proofs.Frames.{framed}
+use Rattle.laws.proofs.FrameNumbers.{framed}
 use Rattle.table.specs.Board.{frameOf}
 use Rattle.scan.specs.Scan.{marksOf}
 use Rattle.scan.specs.Admission.{admissionOf}

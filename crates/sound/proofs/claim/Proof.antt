@@ -6,7 +6,7 @@ use native.Mathlib.Omega.{arith}
 use borrow.Author.Needs.{needs}
 use Rattle.model.specs.Frame.{lent}
 use Rattle.table.specs.Board.{frameOver}
-use Rattle.laws.proofs.Frames.{bounds, lent-in}
+use Rattle.laws.proofs.FrameNumbers.{bounds, lent-in}
 use Rattle.scan.specs.Scan.{claimOf, markOf}
 use Rattle.scan.proofs.Loops.{unlent-claim}
 use Rattle.sound.proofs.claim.Statement.{statement}

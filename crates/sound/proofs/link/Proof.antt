@@ -6,7 +6,7 @@ use Rattle.table.specs.Board.{board}
 use Rattle.model.specs.Entry as entry
 use Rattle.model.specs.Sound.{cleanPage}
 use Rattle.laws.proofs.Every.{every-cong}
-use Rattle.laws.proofs.Frames.{word-at}
+use Rattle.laws.proofs.FrameNumbers.{word-at}
 use Rattle.scan.specs.Scan.{answer, linkStep}
 use Rattle.scan.proofs.Loops.{claimed-lent}
 use Rattle.sound.proofs.link.Statement.{statement}

@@ -6,8 +6,8 @@ use borrow.Author.Tests.{eqb-true}
 use borrow.Author.Needs.{needs}
 use lib.Dec.{lit≤}
 use Rattle.laws.proofs.Choices.{and-true}
-use Rattle.laws.proofs.Frames.{framed}
-use Rattle.range.proofs.Ends.{fair-of}
+use Rattle.laws.proofs.FrameNumbers.{framed}
+use Rattle.range.proofs.RangeEnds.{fair-of}
 use Rattle.table.specs.Board.{frameOf}
 use Rattle.types.specs.Range.{Fair}
 use Rattle.forms.proofs.BoardShape.{board-shape}

@@ -1,7 +1,7 @@
 -- `forms::words::old_word` meets its contract: by what the block's entry says.
 use mathlib.Core.Path.{_∙_, ap}
 use borrow.Author.Needs.{needs}
-use Rattle.laws.proofs.Frames.{word-at}
+use Rattle.laws.proofs.FrameNumbers.{word-at}
 use Rattle.table.specs.Board.{board, frameOf}
 use Rattle.shapes.specs.Words.{spreadOf}
 use Rattle.model.specs.Frame.{wordAt}

@@ -4,8 +4,8 @@ use Prim.Native.Nat.{_+_}
 use native.Mathlib.Omega.{arith}
 use borrow.Author.Tests.{eq-eqb, ne-eqb, lt-ltb}
 use Rattle.model.specs.Calls.{badRange}
-use Rattle.laws.proofs.Frames.{bounds}
-use Rattle.range.proofs.Ends.{no-wrap}
+use Rattle.laws.proofs.FrameNumbers.{bounds}
+use Rattle.range.proofs.RangeEnds.{no-wrap}
 use Rattle.range.proofs.bounds.bad_range.Statement.{statement}
 use Rattle.range.proofs.bounds.bad_range.Tie as tie
 

@@ -5,7 +5,7 @@ use borrow.Author.Tests.{eq-eqb, ne-eqb, lt-ltb, le-ltb}
 use Rattle.model.specs.Calls.{meetsLent}
 use Rattle.table.specs.Board.{frameOver}
 use Rattle.types.specs.Views.{requestOf}
-use Rattle.range.proofs.Ends.{range-ends, lent-ends}
+use Rattle.range.proofs.RangeEnds.{range-ends, lent-ends}
 use Rattle.range.proofs.bounds.on_lent_pages.Statement.{statement}
 use Rattle.range.proofs.bounds.on_lent_pages.Tie as tie
 

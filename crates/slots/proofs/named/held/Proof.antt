@@ -5,13 +5,14 @@ use native.Mathlib.Omega.{arith}
 use lib.ListN.{length, drop}
 use borrow.Author.Needs.{needs}
 use Rattle.model.specs.Numbers.{member}
-use Rattle.slots.specs.Named.{openSdids}
+use Rattle.table.specs.Board.{board}
+use Rattle.shapes.specs.Slots.{openSdids}
 use Rattle.slots.proofs.Sdids.{held-here, held-later, held-by-none}
 use Rattle.slots.proofs.named.held.Statement.{statement}
 use Rattle.slots.proofs.named.held.Tie as tie
 
 abbrev Inv-loop : tie.InvT-loop
-Inv-loop sdid slots i₀ i = (i ≤ 8) × (length slots ≡ 8) × (member (sdid .0) (openSdids slots) ≡ member (sdid .0) (openSdids (drop i slots)))
+Inv-loop sdid slots i₀ i = (i ≤ 8) × (length slots ≡ 8) × (member (sdid .0) (openSdids board slots) ≡ member (sdid .0) (openSdids board (drop i slots)))
 
 abbrev μ-loop : tie.MeasureT-loop
 μ-loop sdid slots i₀ i = 8 - i

@@ -4,7 +4,7 @@ use mathlib.Core.List.{List}
 use Prim.Native.Nat.{ℕ, _+_, _-_, _≤_, _<_}
 use native.Mathlib.Omega.{arith}
 use lib.ListN.{length, length-set}
-use Rattle.slots.specs.Zeroed.{zeroed}
+use Rattle.slots.specs.ZeroPage.{zeroed}
 use Rattle.slots.proofs.Zeroes.{left, left-all, left-next, left-none}
 use Rattle.slots.proofs.page.zero_page.Statement.{statement}
 use Rattle.slots.proofs.page.zero_page.Tie as tie

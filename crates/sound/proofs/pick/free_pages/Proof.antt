@@ -3,9 +3,9 @@ use mathlib.Core.Path.{_≡_, sym, ap, _∙_}
 use mathlib.Core.List.{List, _∷_, headD}
 use Prim.Native.Nat.{ℕ, _+_, _-_, _/_, _≤_, _<_, _^_}
 use native.Mathlib.Omega.{arith}
-use Rattle.laws.proofs.Frames.{bounds, few-pages}
+use Rattle.laws.proofs.FrameNumbers.{bounds, few-pages}
 use Rattle.table.specs.Board.{board, frameOver}
-use Rattle.scan.specs.Free.{clearPages, listed}
+use Rattle.scan.specs.FreeMarks.{clearPages, listed}
 use Rattle.scan.proofs.Clear.{clear, clear-all, clear-end, clear-next}
 use Rattle.sound.proofs.pick.free_pages.Statement.{statement}
 use Rattle.sound.proofs.pick.free_pages.Tie as tie

@@ -1,7 +1,7 @@
 -- `table::lent::block_count` meets its contract: a shift by PAW - 25, which is 9 at the most.
 use native.Mathlib.Omega.{arith}
 use Rattle.model.specs.Frame.{blocks}
-use Rattle.laws.proofs.Frames.{bounds, few-blocks}
+use Rattle.laws.proofs.FrameNumbers.{bounds, few-blocks}
 use Rattle.table.proofs.lent.block_count.Statement.{statement}
 use Rattle.table.proofs.lent.block_count.Tie as tie
 

@@ -1,7 +1,7 @@
 -- `table::lent::page_at` meets its contract: a lent page is one of the pages from the first, so its words are inside.
 use native.Mathlib.Omega.{arith}
 use Rattle.model.specs.Frame.{indexOf}
-use Rattle.laws.proofs.Frames.{lent-in}
+use Rattle.laws.proofs.FrameNumbers.{lent-in}
 use Rattle.table.proofs.lent.page_at.Statement.{statement}
 use Rattle.table.proofs.lent.page_at.Tie as tie
 

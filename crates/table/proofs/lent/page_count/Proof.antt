@@ -1,7 +1,7 @@
 -- `table::lent::page_count` meets its contract: a shift by PAW - 12, which is 22 at the most.
 use native.Mathlib.Omega.{arith}
 use Rattle.model.specs.Frame.{space}
-use Rattle.laws.proofs.Frames.{bounds, few-pages}
+use Rattle.laws.proofs.FrameNumbers.{bounds, few-pages}
 use Rattle.table.proofs.lent.page_count.Statement.{statement}
 use Rattle.table.proofs.lent.page_count.Tie as tie
 

@@ -1,7 +1,7 @@
 -- `table::root::entry_at` meets its contract: an entry of a lent page lies inside the lent words.
 use mathlib.Core.Path.{_∙_}
 use borrow.Author.Needs.{needs}
-use Rattle.laws.proofs.Frames.{entry-at}
+use Rattle.laws.proofs.FrameNumbers.{entry-at}
 use Rattle.table.proofs.root.entry_at.Statement.{statement}
 use Rattle.table.proofs.root.entry_at.Tie as tie
 

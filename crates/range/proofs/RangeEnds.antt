@@ -11,7 +11,7 @@ use Rattle.model.specs.Forms.{Request}
 use Rattle.model.specs.Calls.{badRange}
 use Rattle.laws.proofs.Choices.{split}
 use Rattle.theory.proofs.Ranges.{good-range}
-use Rattle.laws.proofs.Frames.{bounds}
+use Rattle.laws.proofs.FrameNumbers.{bounds}
 use Rattle.types.specs.Range.{Fair}
 use Rattle.types.specs.Views.{requestOf}
 use Rattle.types.specs.declared.Request as code

@@ -16,7 +16,7 @@ use Rattle.model.specs.Sound.{linkOf, linksIn, used, cleanPage, soundEntry, sou
 use Rattle.laws.proofs.Choices.{and-true, and-alone}
 use Rattle.laws.proofs.Every.{every-step}
 use Rattle.laws.proofs.Lists.{each-step, each-append, member-step, distinct-step}
-use Rattle.laws.proofs.Frames.{lent-in}
+use Rattle.laws.proofs.FrameNumbers.{lent-in}
 use Rattle.scan.specs.Scan.{markAll, marksOf}
 use Rattle.scan.proofs.Marks.{setAll, none-marked}
 

@@ -12,7 +12,7 @@ use borrow.Author.Tests.{le-leb, lt-leb, ne-eqb}
 use Rattle.model.specs.Calls.{finished, rootOf, storeList, storeListWith}
 use Rattle.shapes.proofs.Runs.{run-whole, run-short}
 use Rattle.sequence.specs.StoresMade.{fenceAfter}
-use Rattle.sequence.specs.Blocks.{wholeList}
+use Rattle.sequence.specs.Prepared.{wholeList}
 use Rattle.shapes.specs.Run.{allMade, limitReached, runFrom, run}
 use Rattle.types.specs.declared.Budget.{Budget}
 use Rattle.laws.proofs.Choices.{split}
