@@ -19,7 +19,8 @@ pub const AMISS: u8 = 3;
 
 /// What is wrong with a file that has a zero byte, and what can be done.
 const NO_TEXT: &str = "this is no text of commands, and is not read on. A table that `save` wrote is drawn by \
-                       `mpt map --image FILE PAW FIRST`, and read by `load FILE`; a text in UTF-16 must be saved as UTF-8";
+                       `mpt map --image FILE PAW FIRST`, and read by `load FILE`; a text in UTF-16 must be saved \
+                       as UTF-8";
 
 /// What some editors write before the first line.
 const BYTE_ORDER_MARK: &[u8] = b"\xef\xbb\xbf";
@@ -64,7 +65,8 @@ impl<'a> Source<'a> {
         Ok(Source::new(name, BufReader::new(opened)))
     }
 
-    /// The same, of commands. An ordinary file is read to its end once before: if it is no text, no line of it is obeyed.
+    /// The same, of commands. An ordinary file is read to its end once before, so that no line of one that
+    /// is no text is obeyed.
     pub fn script(file: Option<&OsStr>) -> Result<Source<'static>, String> {
         if file.map_or(false, |file| file != "-" && fs::metadata(file).map_or(false, |what| what.is_file())) {
             let (mut source, mut bytes) = (Source::open(file)?, Vec::new());
