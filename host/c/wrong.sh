@@ -55,7 +55,7 @@ versions() {
 # compile NUMBER: what the compiler says goes to a file; its status
 compile() {
     # shellcheck disable=SC2086 # the compiler and its switches
-    $compiler -Wall -Wextra -Werror -I "$here/../include" -DWRONG="$1" -c "$here/wrong.c" -o "$folder/wrong.o" >"$folder/said" 2>&1
+    $compiler -Wall -Wextra -pedantic -Werror -I "$here/../include" -DWRONG="$1" -c "$here/wrong.c" -o "$folder/wrong.o" >"$folder/said" 2>&1
 }
 
 # refused NUMBER WHAT REASON

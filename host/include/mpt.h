@@ -156,6 +156,11 @@ typedef struct mpt_closed { uint64_t word; } mpt_closed;
 typedef struct mpt_edited { uint64_t word; } mpt_edited;
 typedef struct mpt_checked { uint64_t word; } mpt_checked;
 
+#ifdef __clang__
+#pragma clang diagnostic push
+#pragma clang diagnostic ignored "-Wgcc-compat" /* MPT_COUNTED is clang's own there */
+#endif
+
 /* The library's version, as MPT_VERSION has the header's; mpt_version_fits compares them. */
 MPT_MUST_USE uint64_t mpt_version(void);
 
@@ -217,6 +222,10 @@ MPT_MUST_USE mpt_edited mpt_edit(uint64_t paw, mpt_page first, uint64_t *words, 
  */
 MPT_MUST_USE mpt_checked mpt_sound(uint64_t paw, mpt_page first, const uint64_t *words, size_t count,
                                    const uint64_t slots[8]) MPT_COUNTED(read_only);
+
+#ifdef __clang__
+#pragma clang diagnostic pop
+#endif
 
 #ifdef __cplusplus
 }
