@@ -102,10 +102,10 @@ static void count_edits(void)
 /* Every kind of access, by an L1 page and by pieces. */
 static void count_lookups(void)
 {
-    for (uint64_t kind = MPT_FETCH; kind <= MPT_UPDATE_STORE; kind++)
+    for (uint64_t kind = MPT_FETCH.value; kind <= MPT_UPDATE_STORE.value; kind++)
         for (uint64_t page = 0; page < 4; page++) {
             uint64_t top = (UINT64_C(1) << 34) - PAGE * (page + 1), low = page * PIECE_PAGES * PAGE;
-            uint64_t a[10] = {LARGEST, MPT_SUPERVISOR, kind, top};
+            uint64_t a[10] = {LARGEST, MPT_SUPERVISOR.value, kind, top};
             a[4] = KEPT->slots[WORST_SLOT];
             keep_longest(LOOKUP, count_call(LOOKUP, a));
             a[7] = low;

@@ -29,7 +29,7 @@ static void expect_edit(int after_reset)
     const struct firmware *kept = FIRMWARE;
     struct edit edit = {kept->slot, kept->start, kept->length, kept->permission};
     uint64_t lent = (uint64_t)FIRST * PAGE, size = PAGES * PAGE;
-    int refused = edit.permission != MPT_NONE && edit.start < lent + size && lent < edit.start + edit.length;
+    int refused = edit.permission != NONE && edit.start < lent + size && lent < edit.start + edit.length;
     uint64_t count = refused ? 0 : second_edit(&table, &edit, list);
     watched = (struct watched){list, count, 0, NEVER, GOVERNED, edit.slot};
     fence_due = after_reset ? MPT_FENCE_DOMAIN : fence_of(&edit, list, count);
@@ -77,7 +77,7 @@ static void record_store(uint64_t word)
         return;
     }
     if (step()->what != EDIT_RANGE || kept->slot != step()->slot || kept->start != step()->start || kept->length != step()->length ||
-        kept->permission != step()->permission)
+        kept->permission != step()->permission.value)
         fail("the record counts before it is whole: step ", KEPT->nth, ", it says start ", kept->start);
     if (owed)
         fail("another edit before the fence: SDID ", sdid_of(kept->slot), ", owed is kind ", owed);

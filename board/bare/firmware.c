@@ -30,16 +30,17 @@ static uint64_t close_slot(struct firmware *kept, const uint64_t *words, uint64_
 
 static mpt_edited make_recorded(const struct firmware *kept, uint64_t *words)
 {
-    return mpt_edit(PAW, first, words, COUNT, kept->slots, kept->slot, mpt_to_address(kept->start), kept->length, kept->permission,
-                    MPT_MOST_STORES);
+    return mpt_edit(PAW, first, words, COUNT, kept->slots, kept->slot, mpt_to_address(kept->start), kept->length,
+                    mpt_to_permission(kept->permission), MPT_MOST_STORES);
 }
 
-static uint64_t edit_range(struct firmware *kept, uint64_t *words, uint64_t slot, mpt_address start, uint64_t length, uint64_t permission)
+static uint64_t edit_range(struct firmware *kept, uint64_t *words, uint64_t slot, mpt_address start, uint64_t length,
+                           mpt_permission permission)
 {
     put_word(&kept->slot, slot);
     put_word(&kept->start, start.value);
     put_word(&kept->length, length);
-    put_word(&kept->permission, permission);
+    put_word(&kept->permission, permission.value);
     put_word(&kept->under_way, 1); /* the record is whole, and counts from here on */
     mpt_edited answer = make_recorded(kept, words);
     if (mpt_fence(answer) == MPT_FENCE_ADDRESS)
@@ -78,14 +79,14 @@ static int start_up(struct firmware *kept, uint64_t *words, uint64_t power_on)
 }
 
 const struct plan plan[STEPS] = {
-    {OPEN_SLOT, 0, 5, 0, 0, 0},
+    {OPEN_SLOT, 0, 5, 0, 0, MPT_NONE},
     {EDIT_RANGE, 0, 0, 0x40000000, 0x1000, MPT_RW},
     {EDIT_RANGE, 0, 0, 0x40003000, 0x1000, MPT_RX}, /* one store, and a fence of one address */
-    {OPEN_SLOT, 1, 0, 0, 0, 0},
+    {OPEN_SLOT, 1, 0, 0, 0, MPT_NONE},
     {EDIT_RANGE, 1, 0, 0xc0200000, 0x200000, MPT_RWX},
     {EDIT_RANGE, 1, 0, 0x8000f000, 0x1000, MPT_RWX}, /* a lent page: refused */
-    {CLOSE_SLOT, 1, 0, 0, 0, 0},
-    {OPEN_SLOT, 1, 0, 0, 0, 0},                         /* the same SDID once more */
+    {CLOSE_SLOT, 1, 0, 0, 0, MPT_NONE},
+    {OPEN_SLOT, 1, 0, 0, 0, MPT_NONE},                  /* the same SDID once more */
     {EDIT_RANGE, 0, 0, 0x40000000, 0x40000000, MPT_RW}, /* the L1 page is unlinked */
 };
 

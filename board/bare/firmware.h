@@ -17,7 +17,8 @@ struct firmware {
 enum { OPEN_SLOT, CLOSE_SLOT, EDIT_RANGE };
 struct plan {
     int what;
-    uint64_t slot, sdid, start, length, permission;
+    uint64_t slot, sdid, start, length;
+    mpt_permission permission;
 };
 extern const struct plan plan[STEPS];
 

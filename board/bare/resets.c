@@ -14,7 +14,7 @@ static void power_on(void)
 {
     for (int k = 0; k < TRIED_WORDS; k++)
         TABLE[k] = OLD;
-    *FIRMWARE = (struct firmware){READY, {REGISTER(5, FIRST), OLD}, 1, 0, OLD, PAGE, MPT_RWX, 3};
+    *FIRMWARE = (struct firmware){READY, {REGISTER(5, FIRST), OLD}, 1, 0, OLD, PAGE, RWX, 3};
     for (int slot = 0; slot < 8; slot++)
         KEPT->slots[slot] = 0;
     KEPT->power_on = 1;
@@ -28,7 +28,7 @@ static void make_planned(const struct plan *step)
     else if (step->what == OPEN_SLOT)
         make(&(struct step){OPEN, {step->slot, 0, 0, 0}, step->sdid});
     else if (step->start / PAGE < FIRST || step->start / PAGE >= FIRST + PAGES)
-        make(&(struct step){EDIT, {step->slot, step->start, step->length, step->permission}, 0});
+        make(&(struct step){EDIT, {step->slot, step->start, step->length, step->permission.value}, 0});
 }
 
 /* What a step finds, and how the domains read before it and after it. */

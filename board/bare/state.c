@@ -63,7 +63,7 @@ static void check_opened(uint64_t answer)
 {
     KEPT->slots[OPENED] = answer;
     for (uint64_t block = 0; block < blocks(); block++)
-        if (second_whole_block(&table, answer, block) != MPT_NONE)
+        if (second_whole_block(&table, answer, block) != NONE)
             fail("the new domain does not read none: the block from ", block * BLOCK_PAGES * PAGE, ", register ", answer);
 }
 

@@ -35,11 +35,12 @@ static void calls_without_stores(void)
     watched = (struct watched){NULL, 0, 0, NEVER, NOTHING, EDITED};
     uint64_t start = tried->edit.start, reads = KEPT->whole.reads_before.pages[start / PAGE];
     uint64_t sound = call_trapped(SOUND, (uint64_t[10]){table.paw, FIRST, words, count, slots});
-    uint64_t lookup = call_trapped(LOOKUP, (uint64_t[10]){table.paw, FIRST, words, count, mmpt, MPT_SUPERVISOR, MPT_LOAD, start});
+    uint64_t as = MPT_SUPERVISOR.value, load = MPT_LOAD.value;
+    uint64_t lookup = call_trapped(LOOKUP, (uint64_t[10]){table.paw, FIRST, words, count, mmpt, as, load, start});
     mpt_closed close = {call_trapped(CLOSE, (uint64_t[10]){table.paw, FIRST, words, count, slots, EDITED})};
     if (sound != MPT_FINE)
         fail("not sound: ", sound, ", slot 0 is ", mmpt);
-    if (lookup != (reads == MPT_NONE ? MPT_LOAD_FAULT : MPT_FINE))
+    if (lookup != (reads == NONE ? MPT_LOAD_FAULT : MPT_FINE))
         fail("lookup ", lookup, ", the walk reads ", reads);
     if (mpt_fence(close) != MPT_FENCE_DOMAIN || mpt_fence_sdid(close).value != (mmpt >> 54 & 63))
         fail("close ", close.word, ", slot ", EDITED);

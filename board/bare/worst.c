@@ -43,7 +43,7 @@ void open_roots(uint64_t count)
 void fill_up(uint64_t slot, uint64_t left)
 {
     for (uint64_t block = PAGE_ENTRIES - 1; next_page + left < LARGEST_PAGES; block--)
-        give_page(slot, block, MPT_RW, 1, 1);
+        give_page(slot, block, RW, 1, 1);
 }
 
 /* The blocks of the edited domain from GiB 0 to GiB 15: see struct shape. */
@@ -60,18 +60,18 @@ struct edit make_shape(const struct shape *shape)
 {
     open_roots(8);
     for (uint64_t block = 0; block < 31; block++)
-        give_block(block, WITH_PAGE, MPT_NONE, 0, shape->low_mixed);
-    give_block(31, shape->low, MPT_RX, 0, 0);
+        give_block(block, WITH_PAGE, NONE, 0, shape->low_mixed);
+    give_block(31, shape->low, RX, 0, 0);
     for (uint64_t block = 32; block < 480; block++)
-        give_block(block, PIECES, MPT_RWX, 0, 0);
+        give_block(block, PIECES, RWX, 0, 0);
     for (uint64_t block = 480; block < 512; block++)
         if (block == 480)
-            give_block(block, shape->high, shape->high_rest ? MPT_RW : MPT_NONE, 0, 0);
+            give_block(block, shape->high, shape->high_rest ? RW : NONE, 0, 0);
         else
-            give_block(block, WITH_PAGE, MPT_NONE, block == 511, shape->high_mixed);
+            give_block(block, WITH_PAGE, NONE, block == 511, shape->high_mixed);
     fill_up(0, (shape->low != WITH_PAGE) + (shape->high != WITH_PAGE));
     uint64_t start = 31 * BLOCK_PAGES + 1, past = 480 * BLOCK_PAGES + (shape->long_end ? BLOCK_PAGES - 1 : 1);
-    return (struct edit){WORST_SLOT, start * PAGE, (past - start) * PAGE, MPT_NONE};
+    return (struct edit){WORST_SLOT, start * PAGE, (past - start) * PAGE, NONE};
 }
 
 /* Every block changes, and those at both ends take a new page: as many stores as an edit can have. */
@@ -79,8 +79,8 @@ struct edit make_widest(void)
 {
     open_roots(8);
     for (uint64_t block = 0; block < 512; block++)
-        give_block(block, PIECES, MPT_RWX, 0, 0);
+        give_block(block, PIECES, RWX, 0, 0);
     for (uint64_t block = 1; next_page + 2 < LARGEST_PAGES; block++)
-        give_page(WORST_SLOT, block, MPT_RW, 1, 0);
-    return (struct edit){WORST_SLOT, PAGE, (UINT64_C(1) << 34) - 2 * PAGE, MPT_NONE};
+        give_page(WORST_SLOT, block, RW, 1, 0);
+    return (struct edit){WORST_SLOT, PAGE, (UINT64_C(1) << 34) - 2 * PAGE, NONE};
 }

@@ -5,8 +5,8 @@
 
 enum { PAGE = 4096, PAGE_ENTRIES = 512, PIECE_PAGES = 512, BLOCK_PAGES = 8192, GIB_BLOCKS = 32, MOST_STORES = 1536, MOST_PAGES = 256 };
 
-/* Beside the four permissions as document 01 numbers them: a walk that faults. */
-enum { FAULT = 4 };
+/* The four permissions as document 01 numbers them, and beside them a walk that faults. */
+enum { NONE = 0, RX = 1, RW = 2, RWX = 3, FAULT = 4 };
 
 struct table {
     uint64_t paw, first, pages;

@@ -13,7 +13,7 @@ static uint64_t slots[MPT_SLOTS];
 static uint64_t paw = 32;
 static int wrong;
 
-static void edit(uint64_t start, uint64_t length, uint64_t permission)
+static void edit(uint64_t start, uint64_t length, mpt_permission permission)
 {
     mpt_edited answer = mpt_edit(paw, FIRST, words, COUNT, slots, 0, mpt_to_address(start), length, permission, MPT_MOST_STORES);
     wrong |= mpt_refused(answer) != 0 || !mpt_all(answer);

@@ -48,17 +48,17 @@ static void new_domain(size_t pages)
     mpt_write_opened(slots, 0, mpt_open(PAW, FIRST, words, count, slots, 0, mpt_to_sdid(5)));
 }
 
-static uint64_t look(uint64_t kind, uint64_t address)
+static uint64_t look(mpt_kind kind, uint64_t address)
 {
     return mpt_lookup(PAW, FIRST, words, count, slots[0], MPT_SUPERVISOR, kind, mpt_to_address(address)).word;
 }
 
-static mpt_edited edit(uint64_t start, uint64_t length, uint64_t permission, uint64_t limit)
+static mpt_edited edit(uint64_t start, uint64_t length, mpt_permission permission, uint64_t limit)
 {
     return mpt_edit(PAW, FIRST, words, count, slots, 0, mpt_to_address(start), length, permission, limit);
 }
 
-static mpt_edited page(uint64_t start, uint64_t permission)
+static mpt_edited page(uint64_t start, mpt_permission permission)
 {
     return edit(start, 0x1000, permission, LIMIT);
 }
@@ -160,9 +160,9 @@ static void other_calls(void)
 {
     expect("check", mpt_sound(PAW, FIRST, words, count, slots).word, MPT_FINE);
     expect("check of a broken frame", mpt_sound(29, FIRST, words, count, slots).word, MPT_BAD_FRAME);
-    mpt_looked nobody = mpt_lookup(PAW, FIRST, words, count, 0, 2, MPT_LOAD, mpt_to_address(0));
+    mpt_looked nobody = mpt_lookup(PAW, FIRST, words, count, 0, mpt_to_privilege(2), MPT_LOAD, mpt_to_address(0));
     expect("a privilege that is none", mpt_lookup_refused(nobody), MPT_OUTSIDE_KIND);
-    expect("a permission that is none", mpt_refused(page(0, 4)), MPT_OUTSIDE_KIND);
+    expect("a permission that is none", mpt_refused(page(0, mpt_to_permission(4))), MPT_OUTSIDE_KIND);
     expect("open a slot in use", mpt_refused(mpt_open(PAW, FIRST, words, count, slots, 0, mpt_to_sdid(6))), MPT_BAD_SLOT);
     mpt_closed answer = mpt_close(PAW, FIRST, words, count, slots, 0);
     expect("close: fence", mpt_fence(answer), MPT_FENCE_DOMAIN);

@@ -14,7 +14,8 @@
 /* The compiler knows none of the numbers. */
 uint64_t call_lookup(const uint64_t *n)
 {
-    return FIELD(mpt_lookup(n[0], MAKE(page, n[1]), n, n[2], n[3], n[4], n[5], MAKE(address, n[6])), word);
+    return FIELD(mpt_lookup(n[0], MAKE(page, n[1]), n, n[2], n[3], MAKE(privilege, n[4]), MAKE(kind, n[5]), MAKE(address, n[6])),
+                 word);
 }
 
 uint64_t call_open(uint64_t *n)
@@ -29,7 +30,7 @@ uint64_t call_close(const uint64_t *n)
 
 uint64_t call_edit(uint64_t *n)
 {
-    return FIELD(mpt_edit(n[0], MAKE(page, n[1]), n, n[2], n, n[3], MAKE(address, n[4]), n[5], n[6], n[7]), word);
+    return FIELD(mpt_edit(n[0], MAKE(page, n[1]), n, n[2], n, n[3], MAKE(address, n[4]), n[5], MAKE(permission, n[6]), n[7]), word);
 }
 
 uint64_t call_sound(const uint64_t *n)
@@ -49,11 +50,11 @@ int main(void)
 }
 #else
 /* A number to which each argument adds in a way of its own. */
-mpt_looked mpt_lookup(uint64_t paw, mpt_page first, const uint64_t *words, size_t count, uint64_t mmpt, uint64_t privilege, uint64_t kind,
-                      mpt_address address)
+mpt_looked mpt_lookup(uint64_t paw, mpt_page first, const uint64_t *words, size_t count, uint64_t mmpt, mpt_privilege privilege,
+                      mpt_kind kind, mpt_address address)
 {
-    return MAKE(looked, paw + 3 * FIELD(first, value) + 5 * words[0] + 7 * count + 9 * mmpt + 11 * privilege + 13 * kind +
-                            15 * FIELD(address, value));
+    return MAKE(looked, paw + 3 * FIELD(first, value) + 5 * words[0] + 7 * count + 9 * mmpt + 11 * FIELD(privilege, value) +
+                            13 * FIELD(kind, value) + 15 * FIELD(address, value));
 }
 
 mpt_opened mpt_open(uint64_t paw, mpt_page first, uint64_t *words, size_t count, const uint64_t slots[8], uint64_t slot, mpt_sdid sdid)
@@ -67,10 +68,10 @@ mpt_closed mpt_close(uint64_t paw, mpt_page first, const uint64_t *words, size_t
 }
 
 mpt_edited mpt_edit(uint64_t paw, mpt_page first, uint64_t *words, size_t count, const uint64_t slots[8], uint64_t slot, mpt_address start,
-                    uint64_t length, uint64_t permission, uint64_t limit)
+                    uint64_t length, mpt_permission permission, uint64_t limit)
 {
     return MAKE(edited, paw + 3 * FIELD(first, value) + 5 * words[0] + 7 * count + 9 * slots[0] + 11 * slot + 13 * FIELD(start, value) +
-                            15 * length + 17 * permission + 19 * limit);
+                            15 * length + 17 * FIELD(permission, value) + 19 * limit);
 }
 
 mpt_checked mpt_sound(uint64_t paw, mpt_page first, const uint64_t *words, size_t count, const uint64_t slots[8])

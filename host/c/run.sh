@@ -9,7 +9,7 @@ fi
 here=$(cd "$(dirname "$0")" && pwd)
 folder=$(mktemp -d)
 trap 'rm -rf "$folder"' EXIT
-warnings="-Wall -Wextra -Werror"
+warnings="-Wall -Wextra -pedantic -Werror"
 
 # shellcheck disable=SC2086 # switches
 "${CC:-cc}" -std=c11 $warnings -I "$here/../include" "$here/test.c" "$1" -o "$folder/test"

@@ -1,5 +1,5 @@
 /* Cases A, C, E and F of document 01, arguments outside their kind, the parts of answers and the slots after them, written against
- * mpt.h alone. Every number is the paper's. Exit status 0 if all answers are right. */
+ * mpt.h alone. Every number is the paper's, or follows from it by hand. Exit status 0 if all answers are right. */
 #include "mpt.h"
 
 #include <inttypes.h>
@@ -21,12 +21,12 @@ static void expect(const char *what, uint64_t got, uint64_t want)
     fprintf(stderr, "%s: got 0x%" PRIx64 ", document 01 says 0x%" PRIx64 "\n", what, got, want);
 }
 
-static mpt_looked look(uint64_t kind, uint64_t address)
+static mpt_looked look(mpt_kind kind, uint64_t address)
 {
     return mpt_lookup(PAW, FIRST, words, COUNT, slots[0], MPT_SUPERVISOR, kind, mpt_to_address(address));
 }
 
-static mpt_edited edit_page(uint64_t start, uint64_t permission)
+static mpt_edited edit_page(uint64_t start, mpt_permission permission)
 {
     return mpt_edit(PAW, FIRST, words, COUNT, slots, 0, mpt_to_address(start), MPT_PAGE_BYTES, permission, MPT_MOST_STORES);
 }
@@ -45,7 +45,7 @@ static void open_bench(void)
     expect("open: refused", mpt_refused(answer), 0);
     expect("open: register", mpt_register(answer), UINT64_C(0x1140000000080000));
     expect("open: the slot is the caller's to write", slots[0], 0);
-    mpt_write_opened(slots, 0, answer);
+    expect("open: written", (uint64_t)mpt_write_opened(slots, 0, answer), 1);
     expect("open: slot 0", slots[0], UINT64_C(0x1140000000080000));
     answer = mpt_open(PAW, FIRST, words, COUNT, slots, 0, mpt_to_sdid(6));
     expect("open again", mpt_refused(answer), MPT_BAD_SLOT);
@@ -53,9 +53,32 @@ static void open_bench(void)
     expect("open again: register", none, UINT64_C(0xF000000000000000));
     looked("open again: load under its register", mpt_lookup(PAW, FIRST, words, COUNT, none, MPT_SUPERVISOR, MPT_LOAD, mpt_to_address(0)),
            0, 0, MPT_BAD_REGISTER);
-    mpt_write_opened(slots, 0, answer);
+    expect("open again: written", (uint64_t)mpt_write_opened(slots, 0, answer), 0);
     expect("open again: slot 0", slots[0], UINT64_C(0x1140000000080000));
     looked("A: load on the new domain", look(MPT_LOAD, 0x40000000), 0, 5, 0);
+}
+
+/* An answer goes to no slot that it can't be of. Slot 0 is open. */
+static void other_slots(void)
+{
+    mpt_opened one = mpt_open(PAW, FIRST, words, COUNT, slots, 1, mpt_to_sdid(6));
+    mpt_opened two = mpt_open(PAW, FIRST, words, COUNT, slots, 2, mpt_to_sdid(7)); /* takes the same page: one is not written yet */
+    mpt_opened of_slot_0[] = {{UINT64_C(0x1180000000080000)}, {UINT64_C(0x114000000008000F)}}; /* its page, its SDID */
+    expect("open: over slot 0", (uint64_t)mpt_write_opened(slots, 0, one), 0);
+    expect("open: slot 8", (uint64_t)mpt_write_opened(slots, MPT_SLOTS, one), 0);
+    expect("open: slot 1", (uint64_t)mpt_write_opened(slots, 1, one), 1);
+    expect("open: the second of two", (uint64_t)mpt_write_opened(slots, 2, two), 0);
+    expect("open: in two slots", (uint64_t)mpt_write_opened(slots, 3, one), 0);
+    expect("open: slot 0's page", (uint64_t)mpt_write_opened(slots, 3, of_slot_0[0]), 0);
+    expect("open: slot 0's SDID", (uint64_t)mpt_write_opened(slots, 3, of_slot_0[1]), 0);
+    expect("open: sound", (uint64_t)mpt_is_sound(mpt_sound(PAW, FIRST, words, COUNT, slots)), 1);
+    mpt_closed closed = mpt_close(PAW, FIRST, words, COUNT, slots, 1);
+    for (uint64_t slot = 0; slot <= MPT_SLOTS; slot++)
+        if (slot != 1)
+            expect("close: another slot", mpt_write_closed(slots, slot, closed).value, MPT_HIGHEST_SDID + 1);
+    expect("close: slot 1", mpt_write_closed(slots, 1, closed).value, 6);
+    for (int slot = 0; slot < MPT_SLOTS; slot++)
+        expect("all slots but 0", slots[slot], slot == 0 ? UINT64_C(0x1140000000080000) : 0);
 }
 
 static void case_c(void)
@@ -97,10 +120,13 @@ static void codes(void)
     expect("sound, broken frame", broken.word, MPT_BAD_FRAME);
     expect("sound, broken frame: is sound", (uint64_t)mpt_is_sound(broken), 0);
     mpt_address zero = {0};
-    looked("privilege 2", mpt_lookup(PAW, FIRST, words, COUNT, 0, 2, MPT_LOAD, zero), 0, 0, MPT_OUTSIDE_KIND);
+    looked("privilege 2", mpt_lookup(PAW, FIRST, words, COUNT, 0, mpt_to_privilege(2), MPT_LOAD, zero), 0, 0, MPT_OUTSIDE_KIND);
     looked("MODE 2", mpt_lookup(PAW, FIRST, words, COUNT, UINT64_C(2) << 60, MPT_USER, MPT_LOAD, zero), 0, 0, MPT_BAD_REGISTER);
-    expect("permission 4", mpt_refused(edit_page(0, 4)), MPT_OUTSIDE_KIND);
+    expect("permission 4", mpt_refused(edit_page(0, mpt_to_permission(4))), MPT_OUTSIDE_KIND);
     expect("the page of an address", mpt_page_of(mpt_to_address(0x40123456)).value, 0x40123);
+    static const uint64_t fixed[3] = {0};
+    expect("the words of an array", MPT_WORDS(words), COUNT);
+    expect("the words of an array that stays as it is", MPT_WORDS(fixed) + fixed[0], 3);
 }
 
 /* Bare, which is allowed in every frame that keeps its bounds. */
@@ -132,6 +158,7 @@ int main(void)
     expect("version", mpt_version(), MPT_VERSION);
     expect("version fits", (uint64_t)mpt_version_fits(), 1);
     open_bench();
+    other_slots();
     case_c();
     case_e();
     case_f();

@@ -2,6 +2,8 @@
 #include "mpt.h"
 
 static uint64_t words[2 * MPT_PAGE_WORDS], slots[MPT_SLOTS];
+static uint64_t *const place = words;
+static uint8_t bytes[2 * MPT_PAGE_BYTES];
 
 void calls(mpt_page first, mpt_address address, mpt_sdid sdid);
 void calls(mpt_page first, mpt_address address, mpt_sdid sdid)
@@ -10,8 +12,8 @@ void calls(mpt_page first, mpt_address address, mpt_sdid sdid)
     mpt_opened opened = mpt_open(32, first, words, 1024, slots, 0, sdid);
     mpt_edited edited = mpt_edit(32, first, words, 1024, slots, 0, address, MPT_PAGE_BYTES, MPT_RW, MPT_MOST_STORES);
     mpt_closed closed = mpt_close(32, first, words, 1024, slots, 0);
-    mpt_checked checked = mpt_sound(32, first, words, 1024, slots);
-    uint64_t number = mpt_fault(looked) + mpt_refused(opened) + mpt_stores(edited) + mpt_fence(closed) + checked.word;
+    mpt_checked checked = mpt_sound(32, first, place, MPT_WORDS(words), slots);
+    uint64_t number = mpt_fault(looked) + mpt_refused(opened) + mpt_stores(edited) + mpt_fence(closed) + checked.word + bytes[0];
     mpt_write_opened(slots, number, opened);
     sdid = mpt_write_closed(slots, 0, closed);
 #if WRONG == 1
@@ -63,6 +65,36 @@ void calls(mpt_page first, mpt_address address, mpt_sdid sdid)
     mpt_sound(32, first, words, 1024, slots);
 #elif WRONG == 24
     mpt_write_closed(slots, 0, closed);
+#elif WRONG == 25
+    looked = mpt_lookup(32, first, words, 1024, slots[0], MPT_LOAD, MPT_USER, address);
+#elif WRONG == 26
+    looked = mpt_lookup(32, first, words, 1024, slots[0], 0, MPT_LOAD, address);
+#elif WRONG == 27
+    looked = mpt_lookup(32, first, words, 1024, slots[0], MPT_USER, 1, address);
+#elif WRONG == 28
+    looked = mpt_lookup(32, first, words, 1024, slots[0], MPT_USER, MPT_RW, address);
+#elif WRONG == 29
+    looked = mpt_lookup(32, first, words, 1024, MPT_USER, slots[0], MPT_LOAD, address);
+#elif WRONG == 30
+    edited = mpt_edit(32, first, words, 1024, slots, 0, address, 4096, MPT_STORE, 1);
+#elif WRONG == 31
+    edited = mpt_edit(32, first, words, 1024, slots, 0, address, 4096, 2, 1);
+#elif WRONG == 32
+    edited = mpt_edit(32, first, words, 1024, slots, 0, address, 4096, 1536, MPT_RW);
+#elif WRONG == 33
+    edited = mpt_edit(32, first, words, 1024, slots, 0, address, MPT_RW, 4096, 1);
+#elif WRONG == 34
+    mpt_write_opened(slots, 0, edited);
+#elif WRONG == 35
+    sdid = mpt_write_closed(slots, 0, edited);
+#elif WRONG == 36
+    number = MPT_WORDS(place);
+#elif WRONG == 37
+    number = MPT_WORDS(bytes);
+#elif WRONG == 38
+    edited = mpt_edit(32, first, words, sizeof words, slots, 0, address, 4096, MPT_RW, 1);
+#elif WRONG == 39
+    looked = mpt_lookup(32, first, words, sizeof words, slots[0], MPT_USER, MPT_LOAD, address);
 #elif WRONG != 0
 #error "no such wrong version"
 #endif

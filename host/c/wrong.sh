@@ -34,13 +34,28 @@ versions() {
 22:an edit left lying:ignoring return value .*warn_unused_result
 23:a check left lying:ignoring return value .*warn_unused_result
 24:a close's fence left lying:ignoring return value .*warn_unused_result
+25:privilege and kind swapped:argument 6 of 'mpt_lookup'|'mpt_kind'.* to .*'mpt_privilege'
+26:a number for a privilege:argument 6 of 'mpt_lookup'|'int'.* to .*'mpt_privilege'
+27:a number for a kind:argument 7 of 'mpt_lookup'|'int'.* to .*'mpt_kind'
+28:a permission for a kind:argument 7 of 'mpt_lookup'|'mpt_permission'.* to .*'mpt_kind'
+29:register and privilege swapped:argument 5 of 'mpt_lookup'|'mpt_privilege'.* to .*'uint64_t'
+30:a kind for a permission:argument 9 of 'mpt_edit'|'mpt_kind'.* to .*'mpt_permission'
+31:a number for a permission:argument 9 of 'mpt_edit'|'int'.* to .*'mpt_permission'
+32:permission and limit swapped:argument 9 of 'mpt_edit'|'int'.* to .*'mpt_permission'
+33:length and permission swapped:argument 8 of 'mpt_edit'|'mpt_permission'.* to .*'uint64_t'
+34:an edit's answer for an open's:argument 3 of 'mpt_write_opened'|'mpt_edited'.* to .*'mpt_opened'
+35:an edit's answer for a close's:argument 3 of 'mpt_write_closed'|'mpt_edited'.* to .*'mpt_closed'
+36:the words of a pointer:'uint64_t ?\* ?const ?\*'.* not compatible with any|call to 'mpt_words
+37:the words of bytes:'uint8_t ?\(\*\)\[8192\]'.* not compatible with any|call to 'mpt_words
+38:bytes for words in an edit:mpt_edit.* accessing 65536 bytes|count is of words
+39:bytes for words in a lookup:mpt_lookup.* reading 65536 bytes|count is of words
 .
 }
 
 # compile NUMBER: what the compiler says goes to a file; its status
 compile() {
     # shellcheck disable=SC2086 # the compiler and its switches
-    $compiler -Wall -Wextra -Werror -I "$here/../include" -DWRONG="$1" -c "$here/wrong.c" -o "$folder/wrong.o" >"$folder/said" 2>&1
+    $compiler -Wall -Wextra -pedantic -Werror -I "$here/../include" -DWRONG="$1" -c "$here/wrong.c" -o "$folder/wrong.o" >"$folder/said" 2>&1
 }
 
 # refused NUMBER WHAT REASON

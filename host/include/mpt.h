@@ -6,7 +6,8 @@
  *   first   the page number of the first lent page: an address divided by 4,096
  *   words   the lent table memory, one entry of 8 bytes a word, lowest address first; low byte first
  *           in memory, as a little-endian machine has it
- *   count   how many words: MPT_PAGE_WORDS for each page, MPT_FEWEST_PAGES to MPT_MOST_PAGES whole pages
+ *   count   how many words, not bytes: MPT_PAGE_WORDS for each page, MPT_FEWEST_PAGES to MPT_MOST_PAGES
+ *           whole pages. MPT_WORDS(words) is it, where words is an array
  *   slots   the eight slots, each an mmpt value; zero means empty. A call reads them and never writes
  *           them: the caller keeps them, and writes one after an open and after a close
  *           (mpt_write_opened and mpt_write_closed do it in the right order)
@@ -16,9 +17,11 @@
  *
  * Kinds that must not be mixed
  *
- *   A page number, an address and an SDID are structs of one field, made by mpt_to_page,
- *   mpt_to_address and mpt_to_sdid: one in another's place does not compile. Both ABIs, x86-64's and
- *   RISC-V's lp64d, pass and return such a struct in the same register as its field.
+ *   A page number, an address, an SDID, a privilege, a kind of access and a permission are structs of
+ *   one field: one in another's place, or a number, does not compile. The values of the last three have
+ *   names (MPT_USER, MPT_LOAD, MPT_RW ..); mpt_to_page, mpt_to_address, mpt_to_sdid, mpt_to_privilege,
+ *   mpt_to_kind and mpt_to_permission make one of a number. Both ABIs, x86-64's and RISC-V's lp64d, pass
+ *   and return such a struct in the same register as its field.
  *
  * What every call answers: one word, in a struct of the call's own
  *
@@ -52,6 +55,22 @@
 #define MPT_MUST_USE __attribute__((warn_unused_result))
 #else
 #define MPT_MUST_USE
+#endif
+
+/* A count of more words than there are, as `sizeof words` would be: where the compiler sees the array,
+ * clang refuses it and GCC warns. Not of mpt_open, for which words need not have been written yet: GCC
+ * would take them for words that are read before. */
+#define MPT_COUNTED(access_mode)
+#if defined(__has_attribute)
+#if __has_attribute(diagnose_if)
+#undef MPT_COUNTED
+#define MPT_COUNTED(access_mode) \
+    __attribute__((diagnose_if(count > __builtin_object_size(words, 0) / 8, \
+                               "count is of words, and there are fewer", "error")))
+#elif __has_attribute(access)
+#undef MPT_COUNTED
+#define MPT_COUNTED(access_mode) __attribute__((access(access_mode, 3, 4)))
+#endif
 #endif
 
 #ifdef __cplusplus
@@ -88,25 +107,6 @@ enum {
     MPT_STORE_FAULT = 263  /* 256 + cause 7 */
 };
 
-/* Effective privilege. */
-enum { MPT_USER = 0, MPT_SUPERVISOR = 1, MPT_MACHINE = 3 };
-
-/* Kinds of access. The fault is always that of the original access: fetch, load or store. */
-enum {
-    MPT_FETCH = 0,
-    MPT_LOAD = 1,
-    MPT_STORE = 2,
-    MPT_WALK_FETCH = 3, /* page-table read on behalf of a fetch */
-    MPT_WALK_LOAD = 4,
-    MPT_WALK_STORE = 5,
-    MPT_UPDATE_FETCH = 6, /* A/D update on behalf of a fetch */
-    MPT_UPDATE_LOAD = 7,
-    MPT_UPDATE_STORE = 8
-};
-
-/* Permissions. */
-enum { MPT_NONE = 0, MPT_RX = 1, MPT_RW = 2, MPT_RWX = 3 };
-
 /* Fences asked for. A fence names its SDID, and an address fence also its address, in registers
  * other than x0, also for the value 0. */
 enum { MPT_FENCE_NONE = 0, MPT_FENCE_DOMAIN = 1, MPT_FENCE_ADDRESS = 2 };
@@ -116,12 +116,50 @@ typedef struct mpt_page { uint64_t value; } mpt_page;
 typedef struct mpt_address { uint64_t value; } mpt_address;
 typedef struct mpt_sdid { uint64_t value; } mpt_sdid;
 
+/* A value of a kind below, by its code. (As an initial value of a static object ISO C wants the code in
+ * braces, as in {2}; GCC and clang also take the name.) */
+#ifdef __cplusplus
+#define MPT_VALUE(kind, code) (kind{code})
+#else
+#define MPT_VALUE(kind, code) ((kind){code})
+#endif
+
+/* Effective privilege. */
+typedef struct mpt_privilege { uint64_t value; } mpt_privilege;
+#define MPT_USER MPT_VALUE(mpt_privilege, 0)
+#define MPT_SUPERVISOR MPT_VALUE(mpt_privilege, 1)
+#define MPT_MACHINE MPT_VALUE(mpt_privilege, 3)
+
+/* Kinds of access. The fault is always that of the original access: fetch, load or store. */
+typedef struct mpt_kind { uint64_t value; } mpt_kind;
+#define MPT_FETCH MPT_VALUE(mpt_kind, 0)
+#define MPT_LOAD MPT_VALUE(mpt_kind, 1)
+#define MPT_STORE MPT_VALUE(mpt_kind, 2)
+#define MPT_WALK_FETCH MPT_VALUE(mpt_kind, 3) /* page-table read on behalf of a fetch */
+#define MPT_WALK_LOAD MPT_VALUE(mpt_kind, 4)
+#define MPT_WALK_STORE MPT_VALUE(mpt_kind, 5)
+#define MPT_UPDATE_FETCH MPT_VALUE(mpt_kind, 6) /* A/D update on behalf of a fetch */
+#define MPT_UPDATE_LOAD MPT_VALUE(mpt_kind, 7)
+#define MPT_UPDATE_STORE MPT_VALUE(mpt_kind, 8)
+
+/* Permissions. */
+typedef struct mpt_permission { uint64_t value; } mpt_permission;
+#define MPT_NONE MPT_VALUE(mpt_permission, 0)
+#define MPT_RX MPT_VALUE(mpt_permission, 1)
+#define MPT_RW MPT_VALUE(mpt_permission, 2)
+#define MPT_RWX MPT_VALUE(mpt_permission, 3)
+
 /* What each call answers. */
 typedef struct mpt_looked { uint64_t word; } mpt_looked;
 typedef struct mpt_opened { uint64_t word; } mpt_opened;
 typedef struct mpt_closed { uint64_t word; } mpt_closed;
 typedef struct mpt_edited { uint64_t word; } mpt_edited;
 typedef struct mpt_checked { uint64_t word; } mpt_checked;
+
+#ifdef __clang__
+#pragma clang diagnostic push
+#pragma clang diagnostic ignored "-Wgcc-compat" /* MPT_COUNTED is clang's own there */
+#endif
 
 /* The library's version, as MPT_VERSION has the header's; mpt_version_fits compares them. */
 MPT_MUST_USE uint64_t mpt_version(void);
@@ -137,7 +175,8 @@ MPT_MUST_USE uint64_t mpt_version(void);
  * Answers 0 allowed; 1 or 2 refused; 257, 261 or 263 the fault; 255. See mpt_allowed.
  */
 MPT_MUST_USE mpt_looked mpt_lookup(uint64_t paw, mpt_page first, const uint64_t *words, size_t count, uint64_t mmpt,
-                                   uint64_t privilege, uint64_t kind, mpt_address address);
+                                   mpt_privilege privilege, mpt_kind kind, mpt_address address)
+    MPT_COUNTED(read_only);
 
 /* Opens an empty slot for a domain: takes the lowest free page and zeroes it. No fence is needed.
  *
@@ -157,7 +196,7 @@ MPT_MUST_USE mpt_opened mpt_open(uint64_t paw, mpt_page first, uint64_t *words, 
  * 1, 3 or 4 refused.
  */
 MPT_MUST_USE mpt_closed mpt_close(uint64_t paw, mpt_page first, const uint64_t *words, size_t count,
-                                  const uint64_t slots[8], uint64_t slot);
+                                  const uint64_t slots[8], uint64_t slot) MPT_COUNTED(read_only);
 
 /* Gives every page of a range one permission in the domain of a slot. Makes the first stores of
  * document 01's ordered list, up to the limit. After a cut edit the next edit in that domain must be
@@ -175,14 +214,18 @@ MPT_MUST_USE mpt_closed mpt_close(uint64_t paw, mpt_page first, const uint64_t *
  */
 MPT_MUST_USE mpt_edited mpt_edit(uint64_t paw, mpt_page first, uint64_t *words, size_t count,
                                  const uint64_t slots[8], uint64_t slot, mpt_address start, uint64_t length,
-                                 uint64_t permission, uint64_t limit);
+                                 mpt_permission permission, uint64_t limit) MPT_COUNTED(read_write);
 
 /* Is the whole table sound? Changes nothing.
  *
  * Answers 0 sound; 1 the frame breaks its bounds; 3 not sound. See mpt_is_sound.
  */
 MPT_MUST_USE mpt_checked mpt_sound(uint64_t paw, mpt_page first, const uint64_t *words, size_t count,
-                                   const uint64_t slots[8]);
+                                   const uint64_t slots[8]) MPT_COUNTED(read_only);
+
+#ifdef __clang__
+#pragma clang diagnostic pop
+#endif
 
 #ifdef __cplusplus
 }

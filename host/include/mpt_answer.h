@@ -1,5 +1,5 @@
-/* Part of mpt.h, which includes it: numbers into their kinds, an answer's parts, and the slot after an
- * open and a close. */
+/* Part of mpt.h, which includes it: numbers into their kinds, how many words an array has, an answer's
+ * parts, and the slot after an open and a close. */
 #ifndef MPT_ANSWER_H
 #define MPT_ANSWER_H
 
@@ -29,6 +29,26 @@ static inline mpt_sdid mpt_to_sdid(uint64_t number)
 {
     mpt_sdid sdid = {number};
     return sdid;
+}
+
+/* For a code that came from elsewhere; each that is listed in mpt.h has its name there. */
+
+static inline mpt_privilege mpt_to_privilege(uint64_t code)
+{
+    mpt_privilege privilege = {code};
+    return privilege;
+}
+
+static inline mpt_kind mpt_to_kind(uint64_t code)
+{
+    mpt_kind kind = {code};
+    return kind;
+}
+
+static inline mpt_permission mpt_to_permission(uint64_t code)
+{
+    mpt_permission permission = {code};
+    return permission;
 }
 
 /* The page that holds an address. */
@@ -138,23 +158,39 @@ static inline void mpt_write_slot(uint64_t *place, uint64_t value)
     __atomic_store_n((volatile uint64_t *)place, value, __ATOMIC_RELEASE);
 }
 
+/* The SDID and the page number of a register. */
+#define MPT_REGISTER_SDID (UINT64_C(63) << 54)
+#define MPT_REGISTER_PAGE ((UINT64_C(1) << 44) - 1)
+
 /* After an open: its register goes to the slot, last of all. The root page is zeroed by then, so that a
  * reset before this store leaves the slot empty and the page free, and one after it a domain that may
- * do nothing yet. Writes nothing if the open was refused. */
-static inline void mpt_write_opened(uint64_t slots[8], uint64_t slot, mpt_opened answer)
+ * do nothing yet. Says whether it was written. Nothing is if the open was refused, and nothing if the
+ * answer can't be this slot's: the slot is above 7 or in use, or another has that SDID or that page, as
+ * after two opens of which neither was written. An answer does not name its slot: that it goes to the
+ * one that was opened, and not to another empty one, is the caller's to see to. */
+static inline int mpt_write_opened(uint64_t slots[8], uint64_t slot, mpt_opened answer)
 {
-    if (!mpt_open_refused(answer))
-        mpt_write_slot(&slots[slot], answer.word);
+    if (mpt_open_refused(answer) || slot >= MPT_SLOTS || slots[slot] != 0)
+        return 0;
+    for (int other = 0; other < MPT_SLOTS; other++) {
+        uint64_t differs = slots[other] ^ answer.word;
+        if (slots[other] != 0 && ((differs & MPT_REGISTER_SDID) == 0 || (differs & MPT_REGISTER_PAGE) == 0))
+            return 0;
+    }
+    mpt_write_slot(&slots[slot], answer.word);
+    return 1;
 }
 
 /* After a close: the slot is emptied, and only then comes the fence, which the caller makes for the
  * SDID that this returns. In the other order a hart that still found the register in the slot could
  * remember something after the fence. A reset between the two leaves an empty slot whose fence was
  * never made: so at a start, before the first open, everything is fenced (MFENCE.SPA x0, x0).
- * If the close was refused, nothing is written, and the SDID is MPT_HIGHEST_SDID + 1, which is none. */
+ * If the close was refused, or was another slot's (no two have one SDID), nothing is written, and the
+ * SDID is MPT_HIGHEST_SDID + 1, which is none. */
 MPT_MUST_USE static inline mpt_sdid mpt_write_closed(uint64_t slots[8], uint64_t slot, mpt_closed answer)
 {
-    if (mpt_close_refused(answer))
+    if (mpt_close_refused(answer) || slot >= MPT_SLOTS || slots[slot] == 0 ||
+        (slots[slot] >> 54 & 63) != mpt_close_fence_sdid(answer).value)
         return mpt_to_sdid(MPT_HIGHEST_SDID + 1);
     mpt_write_slot(&slots[slot], 0);
     /* every hart sees the empty slot before the fence that follows */
@@ -175,6 +211,10 @@ static inline uint64_t mpt_fence(mpt_closed answer) { return mpt_close_fence(ans
 static inline uint64_t mpt_fence(mpt_edited answer) { return mpt_edit_fence(answer); }
 static inline mpt_sdid mpt_fence_sdid(mpt_closed answer) { return mpt_close_fence_sdid(answer); }
 static inline mpt_sdid mpt_fence_sdid(mpt_edited answer) { return mpt_edit_fence_sdid(answer); }
+
+/* How many words an array has: the `count` of a call. */
+template <size_t count> constexpr size_t mpt_words(const uint64_t (&)[count]) { return count; }
+#define MPT_WORDS(array) mpt_words(array)
 #else
 /* One name for each question, for the answers that it may be asked of (C11). */
 #define mpt_refused(answer) \
@@ -183,6 +223,12 @@ static inline mpt_sdid mpt_fence_sdid(mpt_edited answer) { return mpt_edit_fence
 #define mpt_fence(answer) _Generic((answer), mpt_closed: mpt_close_fence, mpt_edited: mpt_edit_fence)(answer)
 #define mpt_fence_sdid(answer) \
     _Generic((answer), mpt_closed: mpt_close_fence_sdid, mpt_edited: mpt_edit_fence_sdid)(answer)
+
+/* How many words an array has: the `count` of a call. Of a pointer, or of an array of anything but
+ * uint64_t, it does not compile. */
+#define MPT_WORDS(array) \
+    _Generic(&(array), uint64_t(*)[sizeof(array) / 8]: sizeof(array) / 8, \
+             const uint64_t(*)[sizeof(array) / 8]: sizeof(array) / 8)
 #endif
 
 #endif

@@ -8,7 +8,7 @@ use crate::programs::{proved_or, Program, SECOND};
 use crate::sides::Sides;
 use std::ffi::OsStr;
 use std::fs::{self, File};
-use std::io::{self, BufRead, BufReader};
+use std::io::{self, BufRead, BufReader, ErrorKind};
 use std::str;
 
 /// Exit statuses beside 0.
@@ -17,6 +17,11 @@ pub const WRONG: u8 = 2;
 /// Of `mpt map`: the picture shows something that is not as it should be.
 pub const AMISS: u8 = 3;
 
+/// What is wrong with a file that has a zero byte, and what can be done.
+const NO_TEXT: &str = "this is no text of commands, and is not read on. A table that `save` wrote is drawn by \
+                       `mpt map --image FILE PAW FIRST`, and read by `load FILE`; a text in UTF-16 must be saved \
+                       as UTF-8";
+
 /// What some editors write before the first line.
 const BYTE_ORDER_MARK: &[u8] = b"\xef\xbb\xbf";
 
@@ -24,7 +29,7 @@ pub fn main(mut options: Options) -> Result<u8, String> {
     let programs = options.programs(|| vec![proved_or(SECOND)])?;
     let file = options.word();
     options.end()?;
-    let mut source = Source::open(file.as_deref())?;
+    let mut source = Source::script(file.as_deref())?;
     read(&mut Sides::new(&programs), &mut source, |line| {
         if line.outcome.status() > 0 {
             output::failed(line.outcome.status());
@@ -37,28 +42,60 @@ pub fn main(mut options: Options) -> Result<u8, String> {
 pub struct Source<'a> {
     name: String,
     input: Box<dyn BufRead + 'a>,
+    /// The number of the line that was fetched last, from 1.
+    number: usize,
 }
 
-impl Source<'_> {
+impl<'a> Source<'a> {
+    fn new(name: String, input: impl BufRead + 'a) -> Source<'a> {
+        Source { name, input: Box::new(input), number: 0 }
+    }
+
     /// A file, or standard input without a name or with `-`.
     pub fn open(file: Option<&OsStr>) -> Result<Source<'static>, String> {
         let file = match file {
             Some(file) if file != "-" => file,
-            _ => return Ok(Source { name: "standard input".to_string(), input: Box::new(io::stdin().lock()) }),
+            _ => return Ok(Source::new("standard input".to_string(), io::stdin().lock())),
         };
         let name = output::name(file);
         if fs::metadata(file).map_or(false, |what| what.is_dir()) {
             return Err(format!("{name} is a directory; a file is wanted"));
         }
         let opened = File::open(file).map_err(|error| format!("{name}: {error}"))?;
-        Ok(Source { name, input: Box::new(BufReader::new(opened)) })
+        Ok(Source::new(name, BufReader::new(opened)))
     }
 
-    /// Fetches the next line; false at the end.
+    /// The same, of commands. An ordinary file is read to its end once before, so that no line of one that
+    /// is no text is obeyed.
+    pub fn script(file: Option<&OsStr>) -> Result<Source<'static>, String> {
+        if file.map_or(false, |file| file != "-" && fs::metadata(file).map_or(false, |what| what.is_file())) {
+            let (mut source, mut bytes) = (Source::open(file)?, Vec::new());
+            while source.line(&mut bytes)? {}
+        }
+        Source::open(file)
+    }
+
+    /// Fetches the next line; false at the end. No text has a zero byte.
     fn line(&mut self, bytes: &mut Vec<u8>) -> Result<bool, String> {
         bytes.clear();
-        let count = self.input.read_until(b'\n', bytes).map_err(|error| format!("{}: {error}", self.name))?;
-        Ok(count > 0)
+        self.number += 1;
+        loop {
+            let part = match self.input.fill_buf() {
+                Err(error) if error.kind() == ErrorKind::Interrupted => continue,
+                other => other.map_err(|error| format!("{}: {error}", self.name))?,
+            };
+            let end = part.iter().position(|byte| matches!(byte, b'\n' | 0)).map_or(part.len(), |at| at + 1);
+            if end == 0 {
+                return Ok(!bytes.is_empty());
+            }
+            bytes.extend_from_slice(&part[..end]);
+            self.input.consume(end);
+            match bytes.last() {
+                Some(b'\n') => return Ok(true),
+                Some(0) => return Err(format!("{}: line {} has a zero byte: {NO_TEXT}", self.name, self.number)),
+                _ => {}
+            }
+        }
     }
 
     /// All bytes.
@@ -112,7 +149,7 @@ pub struct EndState {
 
 impl EndState {
     pub fn of(programs: &[Program], file: Option<&OsStr>) -> Result<EndState, String> {
-        let (mut source, mut sides, mut lines) = (Source::open(file)?, Sides::new(programs), Vec::new());
+        let (mut source, mut sides, mut lines) = (Source::script(file)?, Sides::new(programs), Vec::new());
         read(&mut sides, &mut source, |line| lines.push(line))?;
         Ok(EndState { name: source.name, sides, lines })
     }
@@ -122,10 +159,8 @@ impl EndState {
 pub fn read(sides: &mut Sides, source: &mut Source, mut tell: impl FnMut(Line)) -> Result<u8, String> {
     let mut status = 0;
     let mut bytes = Vec::new();
-    for number in 1.. {
-        if status == DIFFERENT || !source.line(&mut bytes)? {
-            break;
-        }
+    while status != DIFFERENT && source.line(&mut bytes)? {
+        let number = source.number;
         let (command, outcome) = match command(number, &bytes) {
             Ok(None) => continue,
             Ok(Some(command)) => {
@@ -168,7 +203,7 @@ mod tests {
     /// What `mpt run` writes, its exit status, and the numbers of the lines.
     fn run(text: &[u8]) -> (String, u8, Vec<usize>) {
         let (mut answers, mut numbers) = (String::new(), Vec::new());
-        let mut source = Source { name: "test".to_string(), input: Box::new(text) };
+        let mut source = Source::new("test".to_string(), text);
         let tell = |line: Line| {
             numbers.push(line.number);
             answers += &line.answer();
@@ -184,6 +219,16 @@ mod tests {
         assert_eq!(starts, ["ok", "error: line 4:", "opened 0x11400", "error: line 6:", "refused 4"]);
         assert_eq!((status, numbers), (WRONG, vec![3, 4, 5, 6, 7]));
         assert!(answers.contains("`\\xff\\xfe`"), "{answers}");
+    }
+
+    #[test]
+    fn a_zero_byte_ends_the_reading_and_its_line_is_named() {
+        for (text, line) in [(&b"frame 32 1 2\nsum\0"[..], 2), (b"\0", 1), (b"\n\n# a\n\0\n\0\n", 4)] {
+            let (mut source, mut answers) = (Source::new("test".to_string(), text), 0);
+            let why = read(&mut Sides::new(&[SECOND]), &mut source, |_| answers += 1).unwrap_err();
+            assert!(why.starts_with(&format!("test: line {line} has a zero byte: ")), "{why}");
+            assert_eq!(answers, usize::from(line == 2), "what came before it is obeyed");
+        }
     }
 
     #[test]

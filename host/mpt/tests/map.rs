@@ -116,9 +116,9 @@ fn lines_that_are_no_commands_are_all_named_and_nothing_is_drawn() {
 }
 
 #[test]
-fn an_image_in_a_scripts_place_is_quoted_in_part_and_image_is_named() {
-    let image = file("image.bin");
-    fs::write(&image, [&[0x11; 5000][..], b"\n", &[0; 5000]].concat()).unwrap();
+fn long_lines_that_are_no_commands_are_quoted_in_part_and_image_is_named() {
+    let image = file("long-lines");
+    fs::write(&image, [&[0x11; 5000][..], b"\n", &[0x12; 5000]].concat()).unwrap();
     for command in ["run", "map"] {
         let output = mpt(&[command, &image]);
         let said = text(&output.stdout) + &text(&output.stderr);

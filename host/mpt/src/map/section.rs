@@ -29,6 +29,11 @@ pub struct Entry {
 }
 
 impl Section {
+    /// The title, with a mark before what must not be missed: colours may be lost on the way.
+    pub fn heading(&self) -> String {
+        format!("{}{}", if self.alarm { "! " } else { "" }, self.title)
+    }
+
     /// Says how many are left out, if some are.
     pub fn rest(&self, how: &str) -> Option<String> {
         (self.more > 0).then(|| format!("and {} more{how}", grouped(self.more as u64)))
@@ -190,6 +195,8 @@ mod tests {
             "0x040002000 to 0x040002fff|4 KiB|rw: slot 0; rx: slot 1",
         ];
         assert_eq!((lines(&found[0]), found[0].alarm), (wanted.map(str::to_string).to_vec(), true));
+        assert_eq!(found[0].heading(), "! Open to more than one domain, and one of them may write");
+        assert_eq!(found[1].heading(), "Open to more than one domain, and none may write");
         assert_eq!((lines(&found[1]), found[1].alarm), (vec!["||no page".to_string()], false));
         let closed = "0x080000000 to 0x08000ffff|64 KiB|open to no domain".to_string();
         assert_eq!((lines(&found[2]), found[2].alarm), (vec![closed], false));

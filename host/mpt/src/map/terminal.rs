@@ -37,6 +37,16 @@ pub fn letter(block: &Block) -> char {
     }
 }
 
+/// The letter of a block that is not closed, and the mark of a form that must not be missed.
+pub fn sign(block: &Block) -> String {
+    match (letter(block), mark(block.form)) {
+        ('!', _) => "!".to_string(),
+        (letter, mark @ ('!' | '=')) => format!("{letter}{mark}"),
+        ('.', _) => String::new(),
+        (letter, _) => letter.to_string(),
+    }
+}
+
 /// The mark of a form.
 fn mark(form: Form) -> char {
     match form {
@@ -104,8 +114,8 @@ pub fn draw(picture: &Picture, colour: bool, whole: bool) -> String {
 }
 
 fn section_text(section: &Section, ink: &Ink) -> String {
-    let title = if section.alarm { ink.alarm(&section.title) } else { section.title.clone() };
-    format!("\n{title}\n{}", entries_text(section, ink))
+    let heading = if section.alarm { ink.alarm(&section.heading()) } else { section.heading() };
+    format!("\n{heading}\n{}", entries_text(section, ink))
 }
 
 fn entries_text(section: &Section, ink: &Ink) -> String {
@@ -113,7 +123,7 @@ fn entries_text(section: &Section, ink: &Ink) -> String {
     let (place, size) = (width(|entry| &entry.place), width(|entry| &entry.size));
     let mut text = String::new();
     for entry in &section.entries {
-        let mut line = String::from(" ");
+        let mut line = String::from(if section.alarm { "!" } else { " " });
         if place > 0 {
             let _ = write!(line, " {:<place$} ", entry.place);
         }
@@ -158,7 +168,7 @@ fn pages_text(picture: &Picture, ink: &Ink) -> String {
 }
 
 fn legend(ink: &Ink) -> String {
-    let names = [(". ", "none"), ("x ", "rx"), ("w ", "rw"), ("a ", "rwx")];
+    let names = [(".", "none"), ("x", "rx"), ("w", "rw"), ("a", "rwx")];
     let cells = names.iter().zip(Permission::ALL);
     let cells: Vec<String> = cells.map(|((cell, name), each)| ink.paint(cell, colour(each)) + " " + name).collect();
     format!(
@@ -168,7 +178,7 @@ fn legend(ink: &Ink) -> String {
 the mark after it is the form: blank by a 1G type, : by pieces of 2 MiB, * by pages,
   ! a bad entry, reserved bits or a page that is not lent, = Bare
 a lent page is {} root of slot 0, {} L1 page of slot 0, {} free, {} used twice\n",
-        cells.join("  "),
+        cells.join(", "),
         ink.page(&Use::Root(0)),
         ink.page(&Use::L1(0)),
         ink.page(&Use::Free),
@@ -203,6 +213,22 @@ mod tests {
         assert!(text.contains("NOT SOUND"));
         assert!(!text.contains('\x1b') && draw(&picture, true, false).contains("\x1b["));
         assert_eq!(text.lines().find(|line| line.chars().count() > 100), None);
+    }
+
+    /// Where colours are lost, a sign tells what is not as it should be.
+    #[test]
+    fn signs_of_blocks() {
+        let mut lines = LINES.to_vec();
+        lines.extend(["poke 513 0x8", "slot 5 0x0000200000000000"]);
+        let picture = picture(&lines);
+        let sign = |slot: usize, block: usize| sign(&picture.domains[slot].blocks[block]);
+        assert_eq!([0, 1, 2, 3, 32, 33, 34].map(|block| sign(0, block)), ["x", "w", "!", "a", "X", "W!", ""]);
+        assert_eq!((sign(1, 0), sign(1, 63)), ("a=".to_string(), "a=".to_string()));
+        let text = draw(&picture, false, false);
+        let marked = |line: &&str| line.starts_with("! ");
+        let wanted =
+            ["! Open to more than one domain, and one of them may write", "! The table's own memory (the lent pages)"];
+        assert_eq!(text.lines().filter(marked).filter(|line| !line.contains("0x0")).collect::<Vec<_>>(), wanted);
     }
 
     #[test]

@@ -73,7 +73,7 @@ const IN_USE: [(usize, &str); 8] =
     [(0, "0"), (1, "1"), (2, "2-63"), (64, "64"), (65, "65-127"), (128, "128"), (129, "129-255"), (256, "256")];
 const FREE: [(usize, &str); 4] = [(0, "0"), (1, "1"), (2, "2"), (3, "more")];
 const QUARTERS: [&str; 4] = ["page 0-63", "64-127", "128-191", "192-255"];
-pub const OUTSIDE: [&str; 3] = ["privilege", "kind", "permission"];
+const OUTSIDE: [&str; 3] = ["privilege", "kind", "permission"];
 
 fn nth_range(ranges: &[(usize, &str)], number: usize) -> usize {
     ranges.iter().rposition(|(from, _)| *from <= number).expect("the first range begins at 0")

@@ -1,8 +1,8 @@
 //! One sequence: a table to start from, and then anything.
 
-use super::class::{Class, OUTSIDE};
+use super::class::Class;
 use super::frames::{self, Size};
-use super::layout::{open, pages, within_bounds};
+use super::layout::{open, pages};
 use super::places::{Odd, Places};
 use super::reading::used_pages;
 use super::tally::Tally;
@@ -22,7 +22,7 @@ pub fn run(programs: &[Program], random: &mut Random) -> Result<Tally, Failure> 
         _ => Size::Large,
     };
     let odd = match random.below(100) {
-        0..=5 => return bad_frame(trial, random),
+        0..=5 => return bad_frame(trial, programs, random),
         6..=59 => zeroed(&mut trial, random, size)?,
         _ => {
             let (table, odd) = start::start(random, size);
@@ -56,13 +56,14 @@ fn large(trial: &mut Trial, random: &mut Random, places: &Places) -> Result<(), 
 }
 
 /// Every call on a frame that breaks a bound, or just not.
-fn bad_frame(mut trial: Trial, random: &mut Random) -> Result<Tally, Failure> {
+fn bad_frame(mut trial: Trial, programs: &[Program], random: &mut Random) -> Result<Tally, Failure> {
     trial.obey(frames::bad(random))?;
     let places = Places::new(random, trial.table(), Vec::new());
     for _ in 0..8 {
         let call = generate::call(random, trial.table(), &places);
         trial.obey(call)?;
     }
+    arguments_outside(&mut trial, programs, random, &places)?;
     Ok(trial.tally)
 }
 
@@ -110,7 +111,7 @@ fn step(
         }
         300..=379 => damaged(trial, random, places),
         380..=383 if size == Size::Small => sweep::sweep(trial, random),
-        384..=394 => arguments_outside(trial, programs, random),
+        384..=394 => arguments_outside(trial, programs, random, places),
         _ => {
             let call = generate::call(random, trial.table(), places);
             trial.obey(call).map(drop)
@@ -149,14 +150,16 @@ fn looking_at(random: &mut Random, table: &Table, write: &Command) -> Vec<Comman
     walk.map_or(Vec::new(), |walk| (0..2).map(|_| aim::lookup(random, walk, bit)).collect())
 }
 
-fn arguments_outside(trial: &mut Trial, programs: &[Program], random: &mut Random) -> Result<(), Failure> {
-    let table = trial.table();
-    if !within_bounds(table) {
-        return Ok(());
-    }
+fn arguments_outside(
+    trial: &mut Trial,
+    programs: &[Program],
+    random: &mut Random,
+    places: &Places,
+) -> Result<(), Failure> {
+    let calls = outside::calls(random, trial.table(), places);
     for program in programs {
-        trial.check(outside::check(program, random, table))?;
+        trial.check(outside::check(program, &calls, trial.table()))?;
     }
-    OUTSIDE.into_iter().for_each(|what| trial.tally.note(Class::Outside(what)));
+    calls.iter().for_each(|(what, _)| trial.tally.note(Class::Outside(what)));
     Ok(())
 }

@@ -6,7 +6,7 @@ use super::super::markup::escaped;
 use super::super::picture::{Domain, Picture, Use};
 use super::super::range::Range;
 use super::super::section::block_text;
-use super::super::terminal::{letter, shade_letter};
+use super::super::terminal::{letter, shade_letter, sign};
 use mpt_monitor::Permission;
 
 /// Ranges of a block that its cell names.
@@ -48,11 +48,6 @@ fn classes(block: &Block) -> String {
     format!("c {permission}{form}{}", if block.shade.mixed { " mixed" } else { "" })
 }
 
-/// The letter, but for blocks that are closed.
-fn sign(block: &Block) -> String {
-    Some(letter(block)).filter(|letter| *letter != '.').map_or(String::new(), String::from)
-}
-
 pub fn page(picture: &Picture, nth: usize) -> String {
     let (number, page) = (picture.first + nth as u64, picture.pages[nth]);
     let (class, sign) = match page {
@@ -79,6 +74,8 @@ pub fn legend() -> String {
         (Permission::Rw, false, Form::Pieces, "by pieces of 2 MiB"),
         (Permission::Rw, false, Form::Pages { page: 0, reserved: false }, "by pages (L1 page)"),
         (Permission::None, false, Form::Bad, "faults: a bad entry or a page that is not lent"),
+        (Permission::Rw, false, Form::Pages { page: 0, reserved: true }, "!: reserved bits are set in its L1 page"),
+        (Permission::Rwx, false, Form::Bare, "=: Bare, no table is read and all is allowed"),
     ];
     let mut text = "<section id=\"legend\">\n<h2>A cell is a block of 32 MiB, a row is a GiB</h2>\n".to_string();
     for (strongest, mixed, form, about) in signs {

@@ -11,6 +11,8 @@ use std::fmt::Write;
 const MOST: usize = 500;
 /// Lent pages in a row.
 const ROW_PAGES: usize = 16;
+/// Lines of a list that are seen at once; the others come by scrolling.
+const SEEN: usize = 12;
 
 /// Nothing is fetched, even if a text of the page asked for it.
 const HEAD: &str = r#"<!DOCTYPE html>
@@ -37,7 +39,8 @@ pub fn draw(picture: &Picture, whole: bool) -> String {
     let _ = writeln!(page, "<p id=\"verdict\"{alarm}>{}</p>", escaped(&verdict(picture)));
     for section in sections(picture, most) {
         let alarm = if section.alarm { " class=\"alarm\"" } else { "" };
-        let _ = writeln!(page, "<section>\n<h2{alarm}>{}</h2>\n{}</section>", escaped(&section.title), table(&section));
+        let _ =
+            writeln!(page, "<section>\n<h2{alarm}>{}</h2>\n{}</section>", escaped(&section.heading()), table(&section));
     }
     page += "<div id=\"domains\">\n";
     for each in &picture.domains {
@@ -56,7 +59,12 @@ pub fn draw(picture: &Picture, whole: bool) -> String {
 
 fn table(section: &Section) -> String {
     let alarm = if section.alarm { " class=\"alarm\"" } else { "" };
-    let mut text = format!("<div class=\"list\"><table{alarm}>\n");
+    let long = section.entries.len() > SEEN;
+    let mut text = String::new();
+    if long {
+        let _ = writeln!(text, "<p class=\"scrolls\">{} lines: the list scrolls</p>", section.entries.len());
+    }
+    let _ = writeln!(text, "<div class=\"list{}\"><table{alarm}>", if long { " long" } else { "" });
     for entry in &section.entries {
         text += &row(entry);
     }
@@ -125,7 +133,17 @@ mod tests {
         assert!(page.contains(&format!("{root} data-permission=\"open to no domain\"")));
         assert!(page.contains("data-entry=\"L2 entry 0x0000400000040002, TYPE 4: by pages, L1 page 0x40002\""));
         assert!(page.contains("data-ranges=\"0x000000000 to 0x000000fff rx\""));
-        assert!(page.contains("<h2 class=\"alarm\">Open to more than one domain, and one of them may write"));
+        assert!(page.contains("<h2 class=\"alarm\">! Open to more than one domain, and one of them may write"));
+    }
+
+    #[test]
+    fn a_list_that_scrolls_says_so() {
+        assert!(!draw(&picture(&LINES), false).contains("the list scrolls"));
+        let mut lines: Vec<String> = LINES.map(str::to_string).to_vec();
+        lines.extend((1..14).map(|page| format!("edit 0 {:#x} 0x1000 rx 1536", page * 0x2000)));
+        let lines: Vec<&str> = lines.iter().map(String::as_str).collect();
+        let page = draw(&picture(&lines), false);
+        assert!(page.contains("14 lines: the list scrolls</p>\n<div class=\"list long\">"), "{page}");
     }
 
     #[test]

@@ -2,7 +2,7 @@
 
 use super::super::block::{Block, Form};
 use super::super::picture::Use;
-use super::super::terminal::letter;
+use super::super::terminal::sign;
 use super::sheet::{Box, Sheet};
 use mpt_monitor::Permission;
 
@@ -18,16 +18,22 @@ pub fn fill(permission: Permission) -> &'static str {
 
 const FAULT: &str = "#d62f2f";
 const EDGE: &str = "#9a9a94";
+const INK: &str = "#202020";
+const WHITE: &str = "#ffffff";
 
 /// Draws a block; `title` stands where a pointer rests on it.
 pub fn draw_block(sheet: &mut Sheet, block: &Block, place: Box, title: &str) {
     sheet.begin_group(title);
-    let letter = letter(block);
-    sheet.rectangle(place, if letter == '!' { FAULT } else { fill(block.shade.strongest) }, EDGE, 1.5);
+    let sign = sign(block);
+    let (colour, ink) = if sign == "!" { (FAULT, WHITE) } else { (fill(block.shade.strongest), INK) };
+    sheet.rectangle(place, colour, EDGE, 1.5);
     if block.shade.mixed {
         sheet.rectangle(place, "url(#mixed)", "none", 0.0);
+        // the letter stands on plain ground
+        sheet.rectangle(Sheet::ground(place, &sign), colour, "none", 0.0);
     }
-    let (thin, thick) = ((place.height * 0.1).min(2.6), (place.height * 0.16).min(4.5));
+    let side = place.height.min(place.width);
+    let (thin, thick) = ((side * 0.1).min(2.6), (side * 0.16).min(4.5));
     match block.form {
         Form::Whole | Form::Bad => {}
         Form::Pieces => sheet.rectangle(place.inset(thin * 0.6), "none", "#6b4f9a", thin),
@@ -36,21 +42,19 @@ pub fn draw_block(sheet: &mut Sheet, block: &Block, place: Box, title: &str) {
             sheet.rectangle(place.inset(thick * 0.5), "none", FAULT, thick)
         }
     }
-    if letter != '.' {
-        sheet.letter(place, &letter.to_string());
-    }
+    sheet.letter(place, &sign, ink);
     sheet.end_group();
 }
 
 pub fn draw_page(sheet: &mut Sheet, page: Use, place: Box, number: u64) {
     let (colour, text) = match page {
-        Use::Free => ("#ffffff", String::new()),
+        Use::Free => (WHITE, String::new()),
         Use::Root(slot) => ("#cdb8e8", format!("R{slot}")),
         Use::L1(slot) => ("#f3dc8a", format!("P{slot}")),
         Use::Twice => (FAULT, "!!".to_string()),
     };
     sheet.begin_group(&format!("page 0x{number:x}: {}", page.text()));
     sheet.rectangle(place, colour, EDGE, 1.5);
-    sheet.letter(place, &text);
+    sheet.letter(place, &text, if page == Use::Twice { WHITE } else { INK });
     sheet.end_group();
 }

@@ -8,19 +8,21 @@ use super::LEFT;
 use mpt_monitor::Permission;
 
 /// How high it is.
-pub const HEIGHT: f64 = 40.0 + 3.0 * ROW;
-const ROW: f64 = 54.0;
-const CELL: f64 = 42.0;
+pub const HEIGHT: f64 = 40.0 + 4.0 * ROW;
+const ROW: f64 = 48.0;
+const CELL: f64 = 40.0;
 
-const SIGNS: [(Permission, bool, Form, &str); 8] = [
+const SIGNS: [(Permission, bool, Form, &str); 10] = [
     (Permission::None, false, Form::Whole, "none"),
     (Permission::Rx, false, Form::Whole, "x: rx, read and execute"),
     (Permission::Rw, false, Form::Whole, "w: rw, read and write"),
     (Permission::Rwx, false, Form::Whole, "a: rwx, all"),
-    (Permission::Rw, true, Form::Whole, "the rest has another or less"),
+    (Permission::Rw, true, Form::Whole, "striped: only a part has it"),
     (Permission::Rw, false, Form::Pieces, "by pieces of 2 MiB"),
     (Permission::Rw, false, Form::Pages { page: 0, reserved: false }, "by pages (L1 page)"),
     (Permission::None, false, Form::Bad, "faults: bad entry"),
+    (Permission::Rw, false, Form::Pages { page: 0, reserved: true }, "!: reserved bits are set"),
+    (Permission::Rwx, false, Form::Bare, "=: Bare, all is allowed"),
 ];
 
 const PAGES: [(Use, &str); 4] = [

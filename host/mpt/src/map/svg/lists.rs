@@ -17,7 +17,7 @@ const LETTERS: usize = ((RIGHT - LEFT - 130.0) / (TEXT * LETTER)) as usize;
 /// The lists above the domains, of at most so many lines each; answers where the next thing can begin.
 pub fn above(sheet: &mut Sheet, picture: &Picture, most: usize, mut y: f64) -> f64 {
     for section in sections(picture, Some(most)) {
-        sheet.text(LEFT, y + LINE, Type { alarm: section.alarm, ..Type::of(26.0) }, &section.title);
+        sheet.text(LEFT, y + LINE, Type { alarm: section.alarm, ..Type::of(26.0) }, &section.heading());
         y = entries(sheet, &section, y + LINE + 4.0) + 10.0;
     }
     y

@@ -36,6 +36,12 @@ impl Type {
     }
 }
 
+/// How large a letter is, or two, in a box.
+fn letter_size(place: Box, text: &str) -> f64 {
+    let wide = place.width * 0.8 / (0.55 + 0.45 * text.len() as f64);
+    (place.height * 0.8).min(wide).min(28.0)
+}
+
 pub struct Sheet {
     text: String,
 }
@@ -79,13 +85,24 @@ impl Sheet {
         ));
     }
 
-    /// A letter in the middle of a box.
-    pub fn letter(&mut self, place: Box, text: &str) {
+    /// A letter, or two, in the middle of a box.
+    pub fn letter(&mut self, place: Box, text: &str, ink: &str) {
         if !text.is_empty() {
-            let size = (place.height * 0.8).min(place.width * 0.8).min(28.0);
+            let size = letter_size(place, text);
             let (x, y) = (place.x + place.width / 2.0, place.y + place.height / 2.0 + size * 0.36);
-            self.text(x, y, Type { anchor: "middle", ..Type::of(size) }, text);
+            self.line(format_args!(
+                r#"<text x="{x:.1}" y="{y:.1}" font-size="{size:.1}" text-anchor="middle" fill="{ink}">{}</text>"#,
+                escaped(text)
+            ));
         }
+    }
+
+    /// What a letter covers of its box.
+    pub fn ground(place: Box, text: &str) -> Box {
+        let height = letter_size(place, text);
+        let width = (height * 0.9 * text.len() as f64).min(place.width);
+        let (x, y) = (place.x + (place.width - width) / 2.0, place.y + (place.height - height) / 2.0);
+        Box { x, y, width, height }
     }
 
     pub fn rectangle(&mut self, place: Box, fill: &str, stroke: &str, width: f64) {
