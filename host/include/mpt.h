@@ -43,7 +43,7 @@
 
 /* The interface's version: the major number grows when a caller must change, the minor one when
  * something is added. mpt_version says the library's. */
-#define MPT_VERSION_MAJOR 1
+#define MPT_VERSION_MAJOR 2
 #define MPT_VERSION_MINOR 0
 #define MPT_VERSION ((UINT64_C(1) << 16) * MPT_VERSION_MAJOR + MPT_VERSION_MINOR)
 

@@ -63,7 +63,7 @@ fn done_word(o: Outcome) -> u64
 pub extern "C" fn mpt_version() -> u64
     ensures { λ r. ⌜ r ≡ version ⌝ }
 {
-    65536
+    131072
 }
 
 #[no_mangle]
