@@ -16,7 +16,8 @@ use Rattle.shapes.specs.Blocks.{GibIs, storesOver, pagesOver}
 use Rattle.shapes.specs.Rooted.{Rooted}
 use Rattle.shapes.specs.Run.{Out, allMade, limitReached, run}
 use Rattle.shapes.proofs.Order.{ahead-of}
-use Rattle.sequence.specs.Prepared.{HasNewPage, wholeList}
+use Rattle.sequence.specs.GibBlocks.{HasNewPage}
+use Rattle.sequence.specs.Prepared.{wholeList}
 use Rattle.sequence.proofs.AtBlock.{AtBlock, at-block-start, gib-back, gib-same, over-same, pages-same, rooted, size}
 use Rattle.sequence.proofs.Facts.{Facts}
 use Rattle.sequence.proofs.GibBlockLaws.{Ends, run-gib-blocks}

@@ -26,7 +26,8 @@ use Rattle.shapes.specs.Blocks.{GibIs, formAt, formOfBlock, storesAt, storesOve
 use Rattle.shapes.specs.Run.{Out, allMade, limitReached, run}
 use Rattle.shapes.proofs.Order.{Remaining, remaining-end, remaining-ahead, remaining-next, remaining-cut}
 use Rattle.shapes.proofs.Runs.{run-whole}
-use Rattle.sequence.specs.Prepared.{HasNewPage, wholeList}
+use Rattle.sequence.specs.GibBlocks.{HasNewPage}
+use Rattle.sequence.specs.Prepared.{wholeList}
 use Rattle.sequence.proofs.AtBlock.{AtBlock, callHere, forms-count, need-over}
 use Rattle.sequence.proofs.Facts.{Facts}
 

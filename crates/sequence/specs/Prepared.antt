@@ -1,22 +1,14 @@
--- What the contracts ask of a block and of an accepted edit.
+-- What the contracts ask of an accepted edit, and the list of its stores.
 use mathlib.Core.Path.{_≡_}
-use mathlib.Core.Bool.{true}
 use mathlib.Core.List.{List}
 use Prim.Native.Nat.{ℕ, _*_, _<_, _^_}
 use lib.ListN.{take, getD}
 use Rattle.model.specs.Layout.{gibBlocks}
-use Rattle.model.specs.Frame.{Frame, lent}
-use Rattle.model.specs.Walk.{entryAt}
+use Rattle.model.specs.Frame.{Frame}
 use Rattle.model.specs.Sound.{freePages, roots}
 use Rattle.model.specs.Forms.{Request, firstGib, forms}
-use Rattle.model.specs.Stores.{Store, needsPage, storesFrom}
+use Rattle.model.specs.Stores.{Store, storesFrom}
 use Rattle.model.specs.Calls.{editRefusal, rootOf}
-use Rattle.types.specs.declared.Gib.{Gib}
-use Rattle.shapes.specs.Blocks.{formAt}
-
--- a new page, where the block needs one
-abbrev pub HasNewPage : Frame → List ℕ → Request → ℕ → Gib → ℕ → ℕ → Type 0
-HasNewPage F m q root gib b new = needsPage (formAt F m q root gib b) (entryAt F m root b) ≡ true → (lent F new ≡ true) × (new < 2 ^ F .layout .infoBits)
 
 -- no refusal fits the edit: root is its slot's root page, and free the lowest free pages
 pub record Prepared (F : Frame) (m : List ℕ) (q : Request) (root : ℕ) (free : List ℕ) : Type 0 where

@@ -8,8 +8,7 @@ use lib.ListN.{drop, getD}
 use Rattle.forms.proofs.BoardShape.{board-shape}
 use Rattle.shapes.proofs.BlockLaws.{Entrywise, ahead-over, row-stores, row-pages, pieces-entry}
 use Rattle.shapes.proofs.RowLaws.{row-none}
-use Rattle.sequence.specs.Prepared.{HasNewPage}
-use Rattle.sequence.specs.GibBlocks.{Advanced}
+use Rattle.sequence.specs.GibBlocks.{HasNewPage, Advanced}
 use Rattle.shapes.specs.Blocks.{storesOver}
 use Rattle.shapes.specs.Ahead.{Ahead}
 use Rattle.shapes.proofs.Order.{ahead-of}

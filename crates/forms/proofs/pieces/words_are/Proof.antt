@@ -1,6 +1,5 @@
 -- `forms::pieces::words_are` meets its contract: the entries that are left decide the whole piece.
-use mathlib.Core.Path.{ap₂}
-use mathlib.Core.Path.{_≡_, sym, ap, _∙_}
+use mathlib.Core.Path.{ap₂, _≡_, sym, ap, _∙_}
 use Prim.Native.Nat.{ℕ, _+_, _-_, _*_, _≤_}
 use native.Mathlib.Omega.{arith}
 use borrow.Author.Needs.{needs}
