@@ -9,7 +9,7 @@ ghost use mathlib.Core.List.{List, [], _∷_};
 ghost use Prim.Native.Nat.{_<_};
 ghost use lib.Dec.{eqb};
 ghost use lib.ListN.{length, getD};
-ghost use Rattle.shapes.specs.Ahead.{Ahead, Turned};
+ghost use Rattle.shapes.specs.Ahead.{Ahead, NextStore};
 ghost use Rattle.shapes.specs.Run.{allMade, out, run};
 ghost use Rattle.table.specs.Stored.{storeOf};
 ghost use Rattle.model.specs.Stores.{Store};
@@ -19,7 +19,7 @@ pub fn put_next(words: &mut [Word], left: Budget, at: usize, word: Word) -> Budg
     ghost { List Store }
     requires { λ ss. ⌜ ss ≡ (storeOf at word ∷ []) ⌝ }
     requires { λ ss. ⌜ (at < length (now words)) × (0 < left .more) × Ahead (now words) ss ⌝ }
-    ensures { λ ss r. ⌜ (allMade r (now (words .exit)) ≡ run left ss (now (words .entry))) × Turned (now (words .entry)) (now (words .exit)) ⌝ }
+    ensures { λ ss r. ⌜ (allMade r (now (words .exit)) ≡ run left ss (now (words .entry))) × NextStore (now (words .entry)) ss (now (words .exit)) ⌝ }
 {
     store_word(words, at, word);
     let more = left.more;

@@ -12,7 +12,7 @@ use Rattle.model.specs.Stores.{Store, apply}
 use Rattle.theory.proofs.Along.{apply-append, apply-none}
 use Rattle.laws.proofs.Lists.{joined-append}
 use Rattle.types.specs.declared.Budget.{Budget}
-use Rattle.shapes.specs.Ahead.{AcceptedEdit, listOf, leaves, Ahead, Turned}
+use Rattle.shapes.specs.Ahead.{AcceptedEdit, listOf, leaves, Ahead, Turned, NextStore}
 use Rattle.shapes.specs.Run.{allMade, limitReached, run}
 use Rattle.shapes.proofs.Runs.{run-none, run-on, run-off, run-whole}
 
@@ -82,16 +82,17 @@ ahead-number g n s i h a w =
     ahead-at (joined g i s) (g (s + i)) (joined g (n - (i + 1)) (suc (s + i))) (ap (λ (k : ℕ). joined g k s) u ∙ joined-append g i (suc (n - (i + 1))) s) a w
 
 -- the one store that is ahead is made
-pub turned : {m m′ : List ℕ} (s : Store) → Ahead m (s ∷ []) → m′ ≡ set m (s .at) (s .word) → Turned m m′
+pub turned : {m m′ : List ℕ} (s : Store) (a : Ahead m (s ∷ [])) → m′ ≡ set m (s .at) (s .word) → Turned (a .edit) (length (a .made)) m m′
 unfolding apply ahead-then ahead-at
 turned s a w =
     record {
-      edit = a .edit;
-      k = length (a .made);
       below = omega (arith, ap (λ (l : List Store). length l) (a .order), length-append (a .made) (s ∷ a .later));
       was = a .stands;
       is = ahead-then (s ∷ []) [] a w .stands ∙ ap (leaves (a .edit)) (length-append (a .made) (s ∷ []));
     }
+
+pub next-made : {m m′ : List ℕ} (s : Store) → Ahead m (s ∷ []) → m′ ≡ set m (s .at) (s .word) → NextStore m (s ∷ []) m′
+next-made s a w = record { edit = a .edit; k = length (a .made); turned = turned s a w; each = λ b. turned s b w }
 
 -- ---- from what the functions say of their stores
 

@@ -34,10 +34,16 @@ pub record Ahead (m : List ℕ) (next : List Store) : Type 0 where
   pub order : listOf edit ≡ made ++ (next ++ later)
   pub stands : m ≡ leaves edit (length made)
 
--- one store of an edit: "for each k below the list's length, to turn the bytes that limit k leaves into those that limit k + 1 leaves"
-pub record Turned (before after : List ℕ) : Type 0 where
+-- store k of edit e: "for each k below the list's length, to turn the bytes that limit k leaves into those that limit k + 1 leaves"
+pub record Turned (e : AcceptedEdit) (k : ℕ) (before after : List ℕ) : Type 0 where
+  pub below : k < length (listOf e)
+  pub was : before ≡ leaves e k
+  pub is : after ≡ leaves e (k + 1)
+
+-- what is promised of each single store: it is store k of an edit; and of every edit, the caller's own among them, whose first stores left
+-- `before` and whose list goes on with `next`, it is that store
+pub record NextStore (before : List ℕ) (next : List Store) (after : List ℕ) : Type 0 where
   pub edit : AcceptedEdit
   pub k : ℕ
-  pub below : k < length (listOf edit)
-  pub was : before ≡ leaves edit k
-  pub is : after ≡ leaves edit (k + 1)
+  pub turned : Turned edit k before after
+  pub each : (a : Ahead before next) → Turned (a .edit) (length (a .made)) before after

@@ -2,7 +2,7 @@
 use mathlib.Core.Path.{sym, ap, _∙_}
 use Prim.Native.Nat.{_-_}
 use native.Mathlib.Omega.{arith}
-use Rattle.shapes.proofs.Order.{turned}
+use Rattle.shapes.proofs.Order.{next-made}
 use Rattle.shapes.proofs.Runs.{run-one}
 use Rattle.shapes.specs.Run.{allMade}
 use Rattle.table.specs.Stored.{storeOf}
@@ -25,7 +25,7 @@ returns c =
     let a = s .args in
     let sets = c .before .before .store-word .ensures in (
       ap (allMade (record { more = a .left .more - 1; last = a .at })) sets ∙ sym (run-one (a .left) (storeOf (a .at) (a .word)) (a .words .now) (omega arith)),
-      turned (storeOf (a .at) (a .word)) (s .pre .2) sets,
+      next-made (storeOf (a .at) (a .word)) (s .pre .2) sets,
     )
 
 pub put-next-spec : {M : Type 1} → statement M
