@@ -32,11 +32,11 @@ unfolding judge
 judged k (perm p) = either k (may p (needOf k)) (never-allowed k) (its-own k)
 judged k faults = its-own k
 
-pub fault-of-lookup : (F : Frame) (m : List ℕ) (register : ℕ) (who : Privilege) (address : ℕ) (k : Kind) → ItsFault k (lookup F m register who address k)
+pub fault-of-lookup : (F : Frame) (m : List ℕ) (register : ℕ) (privilege : Privilege) (address : ℕ) (k : Kind) → ItsFault k (lookup F m register privilege address k)
 unfolding lookup reads
-fault-of-lookup F m register who address k =
+fault-of-lookup F m register privilege address k =
     either k (not (frameOk F m)) (never-refused k 1)
     (either k (not (registerOk (F .layout) register)) (never-refused k 2)
-    (either k (isMachine who) (never-allowed k)
+    (either k (isMachine privilege) (never-allowed k)
     (either k (isBare (F .layout) register) (never-allowed k)
     (judged k _))))

@@ -16,8 +16,8 @@ abbrev pub version : ℕ
 version = 2 * 65536 + 0
 
 -- where a code names nothing
-abbrev pub outside : ℕ
-outside = 255
+abbrev pub noCode : ℕ
+noCode = 255
 
 abbrev pub openedWord : Outcome → ℕ → ℕ
 openedWord o slot = replyWord (o .reply) (o .fence) (getD (o .slots) slot 0)
@@ -30,9 +30,9 @@ doneWord o = replyWord (o .reply) (o .fence) 0
 
 module _ (F : Frame) (m : List ℕ) where
   abbrev pub lookupWord : ℕ → Named Privilege → Named Kind → ℕ → ℕ
-  lookupWord register (known who) (known kind) address = answerWord (lookup F m register who address kind)
-  lookupWord register (known who) unknown address = outside
-  lookupWord register unknown kind address = outside
+  lookupWord register (known privilege) (known kind) address = answerWord (lookup F m register privilege address kind)
+  lookupWord register (known privilege) unknown address = noCode
+  lookupWord register unknown kind address = noCode
 
   -- 0 sound, 1 a frame out of its bounds, 3 not sound
   unfoldable pub soundWord : List Slot → ℕ
@@ -41,7 +41,7 @@ module _ (F : Frame) (m : List ℕ) where
   -- what an edit answers, and the memory that it leaves
   abbrev pub editWord : List Slot → ℕ → ℕ → ℕ → Named ℕ → ℕ → ℕ
   editWord slots slot start length (known p) limit = doneWord (editSlot F m slots (requestFrom slot start length p) limit)
-  editWord slots slot start length unknown limit = outside
+  editWord slots slot start length unknown limit = noCode
 
   abbrev pub editMemory : List Slot → ℕ → ℕ → ℕ → Named ℕ → ℕ → List ℕ
   editMemory slots slot start length (known p) limit = editSlot F m slots (requestFrom slot start length p) limit .memory

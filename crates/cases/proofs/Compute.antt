@@ -20,7 +20,7 @@ use Rattle.model.specs.Calls.{Outcome, firstMet, slotAt, badRange, meetsLent, r
 use Rattle.laws.proofs.Peeks.{parts, pageParts, peek}
 use Rattle.laws.proofs.PageRuns.{covers, misses, says, quickAfter, allOne, saysOne, alike, runIs, gibBy, formBy, formsInBy, formsBy, quickForms}
 use Rattle.cases.specs.Bench.{opens, edits}
-use Rattle.cases.proofs.Passes.{pass, passes, pasted}
+use Rattle.cases.proofs.QuickPasses.{pass, passes, pasted}
 use Rattle.cases.proofs.QuickStores.{quickWord, quickSame, quickNew, quickLink, quickBlock, quickStores}
 use Rattle.cases.proofs.Sounds.{quickClean, quickEntry, quickSound}
 use Rattle.cases.proofs.QuickCalls.{quickRefusal, quickList, quickMade, quickWith, edit-is-quick, quickOpenAt, quickOpen, open-is-quick}

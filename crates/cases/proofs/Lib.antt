@@ -1,6 +1,6 @@
 -- The cases hold, by computation.
 --
---   Passes        stores made in passes over the memory
+--   QuickPasses   stores made in passes over the memory
 --   QuickStores   the stores of an edit, with the words of L1 pages by runs of pages
 --   Sounds        whether a table is sound, with the words of L1 pages read quickly
 --   QuickCalls    an edit made of these; two refusals of open
@@ -8,7 +8,7 @@
 --   States        each state that the cases start from, in numbers
 --   Answers       what is asked of a state, computed
 --   Claim         the one claim over the cases marked *, and the others
-pub mod Passes
+pub mod QuickPasses
 pub mod QuickStores
 pub mod Sounds
 pub mod QuickCalls

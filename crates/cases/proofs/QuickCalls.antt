@@ -15,7 +15,7 @@ use Rattle.model.specs.Stores.{Store, newPages}
 use Rattle.model.specs.Fence.{noFence}
 use Rattle.model.specs.Calls.{Outcome, refusedWith, opened, firstMet, slotAt, badRange, meetsLent, rootOf, refuse, openRefusal, openAt, openSlot, editRefusalWith, storeListWith, made, editWith, editSlot}
 use Rattle.laws.proofs.PageRuns.{quickForms, edit-quick}
-use Rattle.cases.proofs.Passes.{passes, apply-passes, pasted, sets-pasted}
+use Rattle.cases.proofs.QuickPasses.{passes, apply-passes, pasted, sets-pasted}
 use Rattle.cases.proofs.QuickStores.{quickStores, stores-quick}
 use Rattle.cases.proofs.Sounds.{quickSound, sound-quick}
 

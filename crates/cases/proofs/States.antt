@@ -8,7 +8,7 @@ use lib.Seq.{sets}
 use Rattle.model.specs.Fence.{Fence, noFence, domainFence, addressFence}
 use Rattle.model.specs.Calls.{Outcome, Reply, opened, edited}
 use Rattle.cases.specs.Bench.{bench, smallBench, none, rx, readWrite, ask, most, blank, new, afterC, afterF, afterG, afterH, cut512, cut513, small0, small1, small2, afterL, afterM, afterM2, withZero, unfinished, afterO, onePageShort, afterT}
-use Rattle.cases.proofs.Passes.{pasted, sets-pasted}
+use Rattle.cases.proofs.QuickPasses.{pasted, sets-pasted}
 use Rattle.cases.proofs.QuickCalls.{quickOpen}
 use Rattle.cases.proofs.Compute.{compute, quick, run, run-open}
 

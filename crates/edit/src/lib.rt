@@ -1,5 +1,5 @@
 // The edit: the stores of an accepted edit in order, up to a limit, and its answer.
-pub mod block;
+mod block;
 
 use crate::block::next_blocks;
 use forms::gibs::gib_at;
@@ -21,7 +21,7 @@ use types::pages::GIB_BYTES;
 use types::pages::PAGE_BYTES;
 ghost use mathlib.Core.Path.{_≡_};
 ghost use mathlib.Core.Bool.{true};
-ghost use Rattle.sequence.specs.StoresMade.{fenceAfter, IsMade};
+ghost use Rattle.sequence.specs.StoresMade.{fenceAfter, StoresMadeIs};
 ghost use Rattle.sequence.specs.Prepared.{Prepared, wholeList};
 ghost use Rattle.shapes.specs.Run.{out, run};
 ghost use Rattle.model.specs.Fence.{inRoot};
@@ -99,7 +99,7 @@ fn fence_after(edit: Edit, words: &[Word], sdid: Sdid, count: u64, all: bool, at
 // An edit that no refusal fits.
 pub fn make(edit: Edit, words: &mut [Word], sdid: Sdid, free: Free, limit: u64) -> StoresMade
     requires { ⌜ Prepared (frameOf (edit .f) (now words)) (now words) (requestOf (edit .q)) (edit .root .0) (freeList free) ⌝ }
-    ensures { λ r. ⌜ IsMade (frameOf (edit .f) (now (words .entry))) (requestOf (edit .q)) (edit .root .0) (sdid .0)
+    ensures { λ r. ⌜ StoresMadeIs (frameOf (edit .f) (now (words .entry))) (requestOf (edit .q)) (edit .root .0) (sdid .0)
         (wholeList (frameOf (edit .f) (now (words .entry))) (now (words .entry)) (requestOf (edit .q)) (edit .root .0) (freeList free)) limit (now (words .entry)) (now (words .exit)) r ⌝ }
 {
     let start = Budget {

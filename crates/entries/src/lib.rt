@@ -1,5 +1,5 @@
 // Stores of entries up to a limit: one, a row of neighbours, all of an L1 page.
-pub mod fresh;
+mod fresh;
 pub mod link;
 pub mod own;
 pub mod put;

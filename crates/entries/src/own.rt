@@ -1,8 +1,8 @@
 // The stores of a block that has an L1 page of its own, and keeps it.
 use crate::put::put_changed;
 use forms::words::after_word;
-use range::pages::first_entry;
-use range::pages::past_entry;
+use range::l1_entries::first_entry;
+use range::l1_entries::past_entry;
 use table::board::Word;
 use table::lent::page_at;
 use types::Budget;

@@ -20,7 +20,7 @@ ghost use Rattle.model.specs.Numbers.{every};
 ghost use Rattle.model.specs.Stores.{Store};
 ghost use Rattle.shapes.specs.Ahead.{Ahead};
 ghost use Rattle.shapes.specs.Run.{allMade, out, run};
-ghost use Rattle.shapes.specs.Rows.{rowStores, fillStores, differs, piecesWord, PiecesAhead};
+ghost use Rattle.shapes.specs.Rows.{rowStores, fillStores, differs, wordAsPieces, PiecesAhead};
 ghost use Rattle.table.specs.Board.{board};
 
 // The n words from at, where as many stores may be made: nothing is asked between them.
@@ -95,8 +95,8 @@ pub fn flat_entries(words: &mut [Word], at: usize, n: usize, word: Word, left: B
 }
 
 // The entry by pieces that says the same as an entry without an L1 page; zero for any other.
-fn pieces_word(word: Word) -> Word
-    ensures { λ r. ⌜ r ≡ piecesWord board word ⌝ }
+fn word_as_pieces(word: Word) -> Word
+    ensures { λ r. ⌜ r ≡ wordAsPieces board word ⌝ }
 {
     match decode(word) {
         Entry::Flat(p) => narrow(PIECE_ENTRY + p * EACH_PIECE),
@@ -106,15 +106,15 @@ fn pieces_word(word: Word) -> Word
     }
 }
 
-// The words from at, n at the most, are to say the same by TYPE 6. An entry with an L1 page ends the row.
+// The words from at, n at the most, are to say the same by pieces. An entry with an L1 page ends the row.
 pub fn pieces_row(words: &mut [Word], at: usize, n: usize, left: Budget) -> RowProgress
     requires { ⌜ (at + n ≤ length (now words)) × PiecesAhead board (now words) n at ⌝ }
-    ensures { λ r. ⌜ (r .count ≤ n) × ((k : ℕ) → at ≤ k → k < at + r .count → piecesWord board (getD (now (words .entry)) k 0) ≡ 0 → ⊥)
-        × (out (r .all) (r .left) (now (words .exit)) ≡ run left (rowStores (now (words .entry)) (piecesWord board) (r .count) at) (now (words .entry))) ⌝ }
+    ensures { λ r. ⌜ (r .count ≤ n) × ((k : ℕ) → at ≤ k → k < at + r .count → wordAsPieces board (getD (now (words .entry)) k 0) ≡ 0 → ⊥)
+        × (out (r .all) (r .left) (now (words .exit)) ≡ run left (rowStores (now (words .entry)) (wordAsPieces board) (r .count) at) (now (words .entry))) ⌝ }
 {
     let mut more = left;
     for i in 0..n {
-        let word = pieces_word(words[at + i]);
+        let word = word_as_pieces(words[at + i]);
         if word == 0 {
             return RowProgress {
                 all: true,

@@ -10,7 +10,7 @@ use types::Form;
 use types::Gib;
 use types::Place;
 use types::Request;
-use types::blocks::needs_page;
+use types::needed_page::needs_page;
 use types::pages::BLOCK_BYTES;
 use types::pages::BLOCK_PAGES;
 use types::pages::GIB_BLOCKS;

@@ -5,6 +5,7 @@
 --   Shifts         digits by shifts
 --   Decoded        what an L2 entry says, by the number above its INFO
 --   Reserved       the reserved bits of an L1 entry, and of many, by a mask
+--   FieldLaws      one field of an L1 entry: one of four permissions, and in a clean entry its digit
 --   Choices        tests: by cases, and what a true or false `&&`, `||`, `not` says
 --   Every          `every`, the test over a run of numbers: its steps, what it gives, what gives it
 --   Lists          `each`, `member`, `distinct` and `joined`, one step at a time
@@ -32,5 +33,6 @@ pub mod FrameNumbers
 pub mod Shifts
 pub mod Decoded
 pub mod Reserved
+pub mod FieldLaws
 pub mod InRange
 pub mod Fronts

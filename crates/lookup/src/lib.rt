@@ -1,7 +1,7 @@
 // The lookup: frame, register, privilege, Bare, walk, permission.
 use table::board::Word;
 use table::lent;
-use table::page;
+use table::place;
 use table::register;
 use table::root;
 use table::word;
@@ -47,8 +47,8 @@ fn in_table(f: Frame, words: &[Word], table: PageNumber, number: PageNumber) -> 
     ensures { λ r. ⌜ foundOf r ≡ walk.found (frameOf f (now (words .entry))) (now (words .entry)) (entryOf (Entry.Table table)) (number .0) ⌝ }
 {
     if lent::is_lent(f, words.len(), table) {
-        let at = lent::page_at(f, words, table) + page::pn1(number) as usize;
-        return word::field_found(words[at], page::pn0(number));
+        let at = lent::page_at(f, words, table) + place::pn1(number) as usize;
+        return word::field_found(words[at], place::pn0(number));
     }
     Found::Fault
 }
@@ -61,7 +61,7 @@ fn found(f: Frame, words: &[Word], e: Entry, number: PageNumber) -> Found
     match e {
         Entry::Flat(p) => Found::Grant(rights::permission_of(p)),
         Entry::Pieces(info) => {
-            Found::Grant(rights::permission_of(word::piece(info, page::piece_of(number))))
+            Found::Grant(rights::permission_of(word::piece(info, place::piece_of(number))))
         }
         Entry::Table(table) => in_table(f, words, table, number),
         Entry::Invalid => Found::Fault,
@@ -111,11 +111,11 @@ pub fn lookup(
     f: Frame,
     words: &[Word],
     register: Word,
-    who: Privilege,
+    privilege: Privilege,
     kind: Kind,
     a: Address,
 ) -> Answer
-    ensures { λ r. ⌜ answerOf r ≡ lookup.lookup (frameOf f (now (words .entry))) (now (words .entry)) register (privilegeOf who) (a .0) (kindOf kind) ⌝ }
+    ensures { λ r. ⌜ answerOf r ≡ lookup.lookup (frameOf f (now (words .entry))) (now (words .entry)) register (privilegeOf privilege) (a .0) (kindOf kind) ⌝ }
 {
     let need = rights::need_of(kind);
     let cause = rights::cause_of(kind);
@@ -125,7 +125,7 @@ pub fn lookup(
     if !register::register_ok(register) {
         return Answer::Refused(Refusal::Register);
     }
-    if rights::is_machine(who) {
+    if rights::is_machine(privilege) {
         return Answer::Allowed;
     }
     if register::is_bare(register) {

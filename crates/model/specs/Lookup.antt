@@ -25,9 +25,9 @@ module _ (F : Frame) where
 
   -- "A lookup checks the frame, then the register, then: effective privilege M is allowed; Bare is allowed; else the walk."
   unfoldable pub lookup : List ℕ → ℕ → Privilege → ℕ → Kind → Answer
-  lookup m register who address kind =
+  lookup m register privilege address kind =
       if not (frameOk F m) then refused 1 else
       if not (registerOk (F .layout) register) then refused 2 else
-      if isMachine who then allowed else
+      if isMachine privilege then allowed else
       if isBare (F .layout) register then allowed else
       reads m register address kind

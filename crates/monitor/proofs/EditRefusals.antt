@@ -13,7 +13,7 @@ use Rattle.model.specs.Forms.{Request, forms, firstGib}
 use Rattle.model.specs.Stores.{Store, newPages}
 use Rattle.model.specs.Calls.{Outcome, edited, firstMet, registerFor, rootOf, refuse, badRange, meetsLent, finished, editRefusalWith, editRefusal, storeList, made, editWith, editSlot}
 use Rattle.types.specs.declared.StoresMade.{StoresMade}
-use Rattle.sequence.specs.StoresMade.{IsMade}
+use Rattle.sequence.specs.StoresMade.{StoresMadeIs}
 use Rattle.shapes.specs.Slots.{notOpen}
 use Rattle.slots.specs.Outcomes.{outcomeOf}
 use Rattle.slots.specs.declared.Outcome as code
@@ -64,7 +64,7 @@ module _ (F : Frame) (m : List ℕ) (slots : List Slot) (q : Request) where
     edit-done h = rw h
 
     -- an answer that says what was made is the model's
-    pub made-is : (list : List Store) (m′ : List ℕ) (r : StoresMade) → IsMade F q (rootOf F slots q) (sdidOf (F .layout) (registerFor slots q)) list limit m m′ r
+    pub made-is : (list : List Store) (m′ : List ℕ) (r : StoresMade) → StoresMadeIs F q (rootOf F slots q) (sdidOf (F .layout) (registerFor slots q)) list limit m m′ r
         → outcomeOf (record { reply = Edited (r .count) (r .all); slots = slots; fence = r .fence }) m′ ≡ made F m slots q list limit
     unfolding made
     made-is list m′ r k = λ i. record { reply = edited (k .count i) (k .all i); memory = k .memory i; slots = slots; fence = k .fence i }

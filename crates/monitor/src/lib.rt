@@ -19,6 +19,7 @@ use types::Address;
 use types::Admission;
 use types::Edit;
 use types::Frame;
+use types::Marks;
 use types::Permission;
 use types::Refusal;
 pub use types::Reply;
@@ -37,7 +38,7 @@ fn edit_open(
     words: &mut [Word],
     slots: [Word; 8],
     q: Request,
-    used: &[bool; 256],
+    used: &Marks,
     limit: u64,
 ) -> Outcome
     requires { ⌜ InOpenSlot (frameOf f (now words)) (now words) slots (requestOf q) (now used) ⌝ }

@@ -1,3 +1,3 @@
 // The range of an edit: whether it is a good one, and which L1 entries it can meet.
 pub mod bounds;
-pub mod pages;
+pub mod l1_entries;

@@ -17,7 +17,7 @@ use Rattle.model.specs.Walk.{rootPages, entryAt}
 use Rattle.model.specs.Sound.{Slot, register, isOpen, openRegisters, linkOf, roots, sdids, linksIn, used, cleanPage, soundEntry, soundRegister, soundRoot, soundSlots, soundTable}
 use Rattle.laws.proofs.Lists.{each-step}
 use Rattle.laws.proofs.FrameNumbers.{bounds}
-use Rattle.scan.specs.Scan.{Scan, unsound, marked, answer, thenScan, scanAll, markOf, registerStep, claimOf, marksOf, linkStep, entryStep, blockStep, rootStep, slotStep}
+use Rattle.scan.specs.Scan.{Scan, unsound, marked, scanned, thenScan, scanAll, markOf, registerStep, claimOf, marksOf, linkStep, entryStep, blockStep, rootStep, slotStep}
 use Rattle.scan.proofs.Marks.{claimAll, then-unsound, then-marked, then-same, spread, all-claims, run-claims, setAll, claims}
 use Rattle.scan.proofs.UsedPages.{place, used-lent, place-distinct, marks-at-places, places-low}
 
@@ -47,7 +47,7 @@ if-and true b s = refl
 if-and false b s = refl
 
 -- what a function's answer says of a test
-answered : (r b : Bool) (j k : List Bool) → answer r j ≡ (if b then marked k else unsound) → (r ≡ b) × (r ≡ true → j ≡ k)
+answered : (r b : Bool) (j k : List Bool) → scanned r j ≡ (if b then marked k else unsound) → (r ≡ b) × (r ≡ true → j ≡ k)
 answered true true j k e = (refl, λ t. cc)
 answered true false j k e = let bad : _≡_ {A = ℕ} 0 1 = cc in absurd (omega arith)
 answered false true j k e = let bad : _≡_ {A = ℕ} 0 1 = cc in absurd (omega arith)
@@ -102,7 +102,7 @@ module _ (F : Frame) (m : List ℕ) where
   entry-law k invalid = refl
   entry-law k (table page) = go (lent F page) (cleanPage F m page) (markOf k (place F page))
     where
-      go : (a b : Bool) (s : Scan) → thenScan (if a then s else unsound) (answer b) ≡ (if a && b then thenScan s marked else unsound)
+      go : (a b : Bool) (s : Scan) → thenScan (if a then s else unsound) (scanned b) ≡ (if a && b then thenScan s marked else unsound)
       go true true s = refl
       go true false s = then-unsound s
       go false b s = refl
@@ -176,10 +176,10 @@ module _ (F : Frame) (m : List ℕ) where
 
     -- ---- what the functions' answers say
 
-    pub tables-said : (slots : List Slot) {k : List Bool} (r : Bool) (j : List Bool) → k ≡ replicate 256 false → answer r j ≡ scanAll (slotStep F m) k slots
+    pub tables-said : (slots : List Slot) {k : List Bool} (r : Bool) (j : List Bool) → k ≡ replicate 256 false → scanned r j ≡ scanAll (slotStep F m) k slots
         → (r ≡ soundTable F m (roots F slots)) × (r ≡ true → j ≡ marksOf F (used F m (roots F slots)))
     tables-said slots r j e said = answered r _ j _ (said ∙ ap (λ (k : List Bool). scanAll (slotStep F m) k slots) e ∙ tables-pass slots)
 
-  pub registers-said : (slots : List Slot) {k : List Bool} (r : Bool) (j : List Bool) → k ≡ replicate 64 false → answer r j ≡ scanAll (registerStep L) k slots
+  pub registers-said : (slots : List Slot) {k : List Bool} (r : Bool) (j : List Bool) → k ≡ replicate 64 false → scanned r j ≡ scanAll (registerStep L) k slots
       → r ≡ soundSlots F slots
   registers-said slots r j e said = answered r _ j _ (said ∙ ap (λ (k : List Bool). scanAll (registerStep L) k slots) e ∙ registers-pass slots) .0

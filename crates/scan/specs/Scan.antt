@@ -18,9 +18,9 @@ pub data Scan : Type 0 where
   marked : List Bool → Scan
 
 -- what a function says by its result and the marks that it leaves
-abbrev pub answer : Bool → List Bool → Scan
-answer true marks = marked marks
-answer false marks = unsound
+abbrev pub scanned : Bool → List Bool → Scan
+scanned true marks = marked marks
+scanned false marks = unsound
 
 abbrev pub thenScan : Scan → (List Bool → Scan) → Scan
 thenScan unsound next = unsound
@@ -64,7 +64,7 @@ module _ (F : Frame) where
   module _ (m : List ℕ) where
     -- the page that a TYPE 4 entry names
     unfoldable pub linkStep : List Bool → ℕ → Scan
-    linkStep marks page = thenScan (claimOf marks page) (answer (cleanPage F m page))
+    linkStep marks page = thenScan (claimOf marks page) (scanned (cleanPage F m page))
 
     abbrev pub entryStep : List Bool → Entry → Scan
     entryStep marks (flat p) = marked marks

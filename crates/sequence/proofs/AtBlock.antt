@@ -23,7 +23,7 @@ use Rattle.theory.proofs.Plans.{AllAt, FitsAll, PlannedCall}
 use Rattle.theory.proofs.Walks.{entry-word}
 use Rattle.types.specs.declared.Budget.{Budget}
 use Rattle.types.specs.declared.Gib.{Gib}
-use Rattle.shapes.specs.Blocks.{GibIs, formAt, formOfBlock, storesAt, storesOver, pagesOver}
+use Rattle.shapes.specs.Blocks.{GibIs, formInGib, formOfBlock, storesInGib, storesOver, pagesOver}
 use Rattle.shapes.specs.Rooted.{Rooted}
 use Rattle.shapes.proofs.Order.{Remaining, remaining-start}
 use Rattle.shapes.proofs.PageLaws.{stores-same}
@@ -57,7 +57,7 @@ module _ {F : Frame} {m0 : List ℕ} {q : Request} {root : ℕ} {free : List ℕ
     pub named : AllAt (λ c fm. fm ≡ formOfBlock F m0 q root c) b post
     pub here : At callHere m b post (drop next free)
     pub taken : next ≤ length free
-    pub way : Remaining limit m0 (wholeList F m0 q root free) left m (storesFrom F m0 q root b post (drop next free))
+    pub remaining : Remaining limit m0 (wholeList F m0 q root free) left m (storesFrom F m0 q root b post (drop next free))
 
   pub at-block-start : (limit : Budget) → AtBlock limit m0 B₀ 0 limit
   at-block-start limit =
@@ -72,7 +72,7 @@ module _ {F : Frame} {m0 : List ℕ} {q : Request} {root : ℕ} {free : List ℕ
             ap (λ (x : ℕ). formIn F m0 q (gibIsOne F m0 q root x (gibFirst F m0 q root x)) (gibFirst F m0 q root x) (entryAt F m0 root c) c) z);
         here = at-start callHere (k .sound) (forms-fit F (k .ok) q (k .low) root m0) free (k .unused) (k .once) (k .room);
         taken = omega arith;
-        way = remaining-start refl (k .start);
+        remaining = remaining-start refl (k .start);
       }
 
 module _ {F : Frame} {m0 : List ℕ} {q : Request} {root : ℕ} {free : List ℕ} {k : Facts F m0 q root free} {limit : Budget}
@@ -121,15 +121,15 @@ module _ {F : Frame} {m0 : List ℕ} {q : Request} {root : ℕ} {free : List ℕ
       entry-over : entryAt F m root c ≡ entryAt F m0 root c
       entry-over = entry-word F m0 m root c (s .here .ahead c lo hi)
 
-      form-over : formAt F m q root gib c ≡ formAt F m0 q root gib c
+      form-over : formInGib F m q root gib c ≡ formInGib F m0 q root gib c
       form-over = same-form F (k .ok) q (k .low) root m0 m after-same (gib .one) (gib .p) c hi
 
-      stores-over : (new : ℕ) → storesAt F m q root gib c new ≡ storesAt F m0 q root gib c new
+      stores-over : (new : ℕ) → storesInGib F m q root gib c new ≡ storesInGib F m0 q root gib c new
       stores-over new =
           ap₂ (λ (x : Form) (y : Entry). blockStores F m q root x y c new) form-over entry-over
-          ∙ stores-same F q c m0 m (k .shape) root (s .here .ahead c lo hi) (formAt F m0 q root gib c) (entryAt F m0 root c) new (λ t i z h. s .here .aheadL1 c t i lo hi z h)
+          ∙ stores-same F q c m0 m (k .shape) root (s .here .ahead c lo hi) (formInGib F m0 q root gib c) (entryAt F m0 root c) new (λ t i z h. s .here .aheadL1 c t i lo hi z h)
 
-      pub need-over : needsPage (formAt F m q root gib c) (entryAt F m root c) ≡ needsPage (formAt F m0 q root gib c) (entryAt F m0 root c)
+      pub need-over : needsPage (formInGib F m q root gib c) (entryAt F m root c) ≡ needsPage (formInGib F m0 q root gib c) (entryAt F m0 root c)
       need-over = ap₂ (λ (x : Form) (y : Entry). needsPage x y) form-over entry-over
 
     pub over-same : (n c : ℕ) (fr : List ℕ) → b ≤ c → c + n ≤ blocks F → storesOver F m q root gib n c fr ≡ storesOver F m0 q root gib n c fr
@@ -138,7 +138,7 @@ module _ {F : Frame} {m0 : List ℕ} {q : Request} {root : ℕ} {free : List ℕ
     over-same (suc n) c fr lo hi =
         ap₂ (λ (x y : List Store). x ++ y) (stores-over c lo (omega arith) (headD fr 0))
         (ap (λ (x : Bool). storesOver F m q root gib n (suc c) (if x then tail fr else fr)) (need-over c lo (omega arith))
-        ∙ over-same n (suc c) (if needsPage (formAt F m0 q root gib c) (entryAt F m0 root c) then tail fr else fr) (omega arith) (omega arith))
+        ∙ over-same n (suc c) (if needsPage (formInGib F m0 q root gib c) (entryAt F m0 root c) then tail fr else fr) (omega arith) (omega arith))
 
     pub pages-same : (n c : ℕ) → b ≤ c → c + n ≤ blocks F → pagesOver F m q root gib n c ≡ pagesOver F m0 q root gib n c
     unfolding newPages formsIn

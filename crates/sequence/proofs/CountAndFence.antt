@@ -10,7 +10,7 @@ use lib.ListN.{length, take}
 use lib.Seq.{getD-take, length-take-le, take-all}
 use borrow.Author.Tests.{le-leb, lt-leb, ne-eqb}
 use Rattle.model.specs.Calls.{finished, rootOf, storeList, storeListWith}
-use Rattle.shapes.proofs.Runs.{run-whole, run-short}
+use Rattle.shapes.proofs.RunLaws.{run-whole, run-short}
 use Rattle.sequence.specs.StoresMade.{fenceAfter}
 use Rattle.sequence.specs.Prepared.{wholeList}
 use Rattle.shapes.specs.Run.{allMade, limitReached, runFrom, run}
@@ -23,7 +23,7 @@ use Rattle.model.specs.Layout.{gibBlocks, pageBytes}
 use Rattle.model.specs.Numbers.{if_then_else_}
 use Rattle.model.specs.Sound.{roots, freePages}
 use Rattle.model.specs.Stores.{Store, apply, newPages}
-use Rattle.theory.proofs.NewPages.{same-pages}
+use Rattle.theory.proofs.PagesTaken.{same-pages}
 
 -- the last of one store
 pub last-of : (limit : ℕ) (s : Store) (m : List ℕ) (l : Budget) (n : List ℕ) → run (record { more = limit; last = 0 }) (s ∷ []) m ≡ allMade l n → l .last ≡ s .at

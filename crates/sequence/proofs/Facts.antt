@@ -19,7 +19,7 @@ use lib.Pow.{pow-mono}
 use Rattle.shapes.proofs.Shape.{Shape}
 use Rattle.sequence.proofs.CountAndFence.{list-is}
 use Rattle.laws.proofs.Sums.{times-measure}
-use Rattle.theory.proofs.NewPages.{two-pages}
+use Rattle.theory.proofs.PagesTaken.{two-pages}
 use Rattle.laws.proofs.Times.{times, times-append}
 use Rattle.model.specs.Calls.{rootOf, storeList}
 use Rattle.model.specs.Sound.{roots, freePages, used}

@@ -16,9 +16,9 @@ use Rattle.model.specs.Stores.{Store, needsPage, storesFrom, newPages}
 use Rattle.model.specs.Walk.{entryAt}
 use Rattle.types.specs.declared.Budget.{Budget}
 use Rattle.types.specs.declared.Gib.{Gib}
-use Rattle.shapes.specs.Blocks.{GibIs, formAt, storesAt, storesOver, pagesOver}
+use Rattle.shapes.specs.Blocks.{GibIs, formInGib, storesInGib, storesOver, pagesOver}
 use Rattle.shapes.specs.Run.{Out, allMade, limitReached, run}
-use Rattle.shapes.proofs.Runs.{run-none, run-on, run-off}
+use Rattle.shapes.proofs.RunLaws.{run-none, run-on, run-off}
 use Rattle.sequence.specs.Prepared.{wholeList}
 use Rattle.sequence.proofs.AtBlock.{AtBlock}
 use Rattle.sequence.proofs.Facts.{Facts}
@@ -48,10 +48,10 @@ module _ {F : Frame} {m0 : List ℕ} {q : Request} {root : ℕ} {free : List ℕ
       fr = drop next free
 
       abbrev need : Bool
-      need = needsPage (formAt F m0 q root gib b) (entryAt F m0 root b)
+      need = needsPage (formInGib F m0 q root gib b) (entryAt F m0 root b)
 
       abbrev ss : List Store
-      ss = storesAt F m0 q root gib b (headD fr 0)
+      ss = storesInGib F m0 q root gib b (headD fr 0)
 
       abbrev ts : List Store
       ts = stores n (suc b) (if need then tail fr else fr)

@@ -22,10 +22,10 @@ use Rattle.theory.proofs.Plans.{AllAt, FitsAll}
 use Rattle.types.specs.declared.Budget.{Budget}
 use Rattle.types.specs.declared.Gib.{Gib}
 use Rattle.shapes.specs.Ahead.{Ahead}
-use Rattle.shapes.specs.Blocks.{GibIs, formAt, formOfBlock, storesAt, storesOver}
+use Rattle.shapes.specs.Blocks.{GibIs, formInGib, formOfBlock, storesInGib, storesOver}
 use Rattle.shapes.specs.Run.{Out, allMade, limitReached, run}
 use Rattle.shapes.proofs.Order.{Remaining, remaining-end, remaining-ahead, remaining-next, remaining-cut}
-use Rattle.shapes.proofs.Runs.{run-whole}
+use Rattle.shapes.proofs.RunLaws.{run-whole}
 use Rattle.sequence.specs.GibBlocks.{HasNewPage}
 use Rattle.sequence.specs.Prepared.{wholeList}
 use Rattle.sequence.proofs.AtBlock.{AtBlock, callHere, forms-count, need-over}
@@ -48,7 +48,7 @@ module _ {F : Frame} {m0 : List ℕ} {q : Request} {root : ℕ} {free : List ℕ
   post-count : b + length (s .post) ≡ end
   post-count = omega (arith, forms-count k, ap (λ (l : List Form). length l) (s .parts), length-append (s .pre) (s .post), s .at)
 
-  form-found : (gib : Gib) (c : ℕ) → GibIs F m0 q root (c / gibBlocks) gib → formAt F m0 q root gib c ≡ formOfBlock F m0 q root c
+  form-found : (gib : Gib) (c : ℕ) → GibIs F m0 q root (c / gibBlocks) gib → formInGib F m0 q root gib c ≡ formOfBlock F m0 q root c
   form-found gib c gi =
       ap (λ (x : Bool). formIn F m0 q x (gib .p) (entryAt F m0 root c) c) (gi .1)
       ∙ ap (λ (x : ℕ). formIn F m0 q (gibIsOne F m0 q root (c / gibBlocks) x) x (entryAt F m0 root c) c) (gi .0)
@@ -61,28 +61,28 @@ module _ {F : Frame} {m0 : List ℕ} {q : Request} {root : ℕ} {free : List ℕ
   front gib zero post c xs h named gi = (storesFrom F m0 q root c post xs, refl)
   front gib (suc n) [] c xs h named gi = absurd (omega arith)
   front gib (suc n) (fm ∷ post) c xs h named gi =
-      let is : fm ≡ formAt F m0 q root gib c = named .0 ∙ sym (form-found gib c (gi c (omega arith) (omega arith))) in
-      let left′ : List ℕ = if needsPage (formAt F m0 q root gib c) (entryAt F m0 root c) then tail xs else xs in
+      let is : fm ≡ formInGib F m0 q root gib c = named .0 ∙ sym (form-found gib c (gi c (omega arith) (omega arith))) in
+      let left′ : List ℕ = if needsPage (formInGib F m0 q root gib c) (entryAt F m0 root c) then tail xs else xs in
       let more = front gib n post (suc c) left′ (omega arith) (named .1) (λ d lo hi. gi d (omega arith) (omega arith)) in
-      let new : List Store = storesAt F m0 q root gib c (headD xs 0) in (
+      let new : List Store = storesInGib F m0 q root gib c (headD xs 0) in (
         more .0,
         ap (λ (x : Form). storesFrom F m0 q root c (x ∷ post) xs) is ∙ ap (λ (l : List Store). new ++ l) (more .1) ∙ sym (append-assoc new (storesOver F m0 q root gib n (suc c) left′) (more .0)),
       )
 
   pub at-block-ahead : (gib : Gib) (n : ℕ) → b + n ≤ end → ((d : ℕ) → b ≤ d → d < b + n → GibIs F m0 q root (d / gibBlocks) gib) → Ahead m (storesOver F m0 q root gib n b fr)
-  at-block-ahead gib n h gi = let f = front gib n (s .post) b fr (omega (arith, post-count)) (s .named) gi in remaining-ahead (s .way) _ (f .0) (f .1)
+  at-block-ahead gib n h gi = let f = front gib n (s .post) b fr (omega (arith, post-count)) (s .named) gi in remaining-ahead (s .remaining) _ (f .0) (f .1)
 
   -- ---- the next block
 
   module _ (some : b < end) (gib : Gib) (gi : GibIs F m0 q root (b / gibBlocks) gib) where
     abbrev form : Form
-    form = formAt F m0 q root gib b
+    form = formInGib F m0 q root gib b
 
     abbrev need : Bool
     need = needsPage form (entryAt F m0 root b)
 
     abbrev ss : List Store
-    ss = storesAt F m0 q root gib b (headD fr 0)
+    ss = storesInGib F m0 q root gib b (headD fr 0)
 
     -- its form heads those that are left
     headed : (post : List Form) → s .post ≡ post → (post′ : List Form) × (s .post ≡ form ∷ post′)
@@ -117,7 +117,7 @@ module _ {F : Frame} {m0 : List ℕ} {q : Request} {root : ℕ} {free : List ℕ
 
     module _ {o : Out} (said : o ≡ run left ss m) where
       pub at-block-cut : {m′ : List ℕ} → o ≡ limitReached m′ → o ≡ run limit (wholeList F m0 q root free) m0
-      at-block-cut z = z ∙ remaining-cut (s .way) ss _ parts (sym z ∙ said)
+      at-block-cut z = z ∙ remaining-cut (s .remaining) ss _ parts (sym z ∙ said)
 
       pub at-block-next : {l : Budget} {m′ : List ℕ} → o ≡ allMade l m′ → AtBlock k limit m′ (b + 1) (if need then next + 1 else next) l
       at-block-next {l} {m′} z =
@@ -136,9 +136,9 @@ module _ {F : Frame} {m0 : List ℕ} {q : Request} {root : ℕ} {free : List ℕ
                 (subst (At (callHere k) (apply ss m) (suc b) post′) (pages-left need free next)
                 (at-next (callHere k) (spot (callHere k) (s .pre) form post′ all b (s .at)) (subst (FitsAll F (after F m0 q root) b) e (s .fits) .0) fr m here′));
             taken = taken′;
-            way =
+            remaining =
                 subst₂ (λ (c : ℕ) (x : List ℕ). Remaining limit m0 (wholeList F m0 q root free) l m′ (storesFrom F m0 q root c post′ x)) one (pages-left need free next)
-                (remaining-next (s .way) ss _ parts (sym z ∙ said));
+                (remaining-next (s .remaining) ss _ parts (sym z ∙ said));
           }
 
   pub at-block-end : end ≤ b → allMade left m ≡ run limit (wholeList F m0 q root free) m0
@@ -146,5 +146,5 @@ module _ {F : Frame} {m0 : List ℕ} {q : Request} {root : ℕ} {free : List ℕ
   at-block-end h = go (s .post) refl
     where
       go : (post : List Form) → s .post ≡ post → allMade left m ≡ run limit (wholeList F m0 q root free) m0
-      go [] e = remaining-end (s .way) (ap (λ (l : List Form). storesFrom F m0 q root b l fr) e)
+      go [] e = remaining-end (s .remaining) (ap (λ (l : List Form). storesFrom F m0 q root b l fr) e)
       go (fm ∷ post′) e = absurd (omega (arith, post-count, ap (λ (l : List Form). length l) e))

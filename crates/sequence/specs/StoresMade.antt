@@ -22,7 +22,7 @@ fenceAfter F q root sdid count all at =
     model.domainFence sdid
 
 -- the first stores of the list up to the limit are made, and the answer says so
-pub record IsMade (F : Frame) (q : Request) (root sdid : ℕ) (whole : List Store) (limit : ℕ) (m m′ : List ℕ) (r : StoresMade) : Type 0 where
+pub record StoresMadeIs (F : Frame) (q : Request) (root sdid : ℕ) (whole : List Store) (limit : ℕ) (m m′ : List ℕ) (r : StoresMade) : Type 0 where
   pub memory : m′ ≡ apply (take limit whole) m
   pub count : r .count ≡ length (take limit whole)
   pub all : r .all ≡ leb (length whole) limit

@@ -22,8 +22,8 @@ use Rattle.types.specs.declared.Gib.{Gib}
 use Rattle.shapes.specs.Ahead.{Ahead}
 use Rattle.shapes.specs.Rooted.{Good}
 use Rattle.shapes.specs.Words.{flatInfo}
-use Rattle.shapes.specs.Blocks.{formAt, storesAt, storesOver, pagesOver, Encodes}
-use Rattle.shapes.specs.Rows.{changeAt, rowStores, piecesOf, piecesWord}
+use Rattle.shapes.specs.Blocks.{formInGib, storesInGib, storesOver, pagesOver, Encodes}
+use Rattle.shapes.specs.Rows.{changeAt, rowStores, entryAsPieces, wordAsPieces}
 use Rattle.shapes.proofs.Shape.{Shape}
 use Rattle.shapes.proofs.EntryLaws.{after-small}
 use Rattle.shapes.proofs.FormLaws.{form-flat-out, form-pieces-out, form-not}
@@ -48,13 +48,13 @@ changed-l2 F m root b w at e = ap (λ (k : ℕ). if eqb (getD m k 0) w then [] e
 module _ (F : Frame) (m : List ℕ) (q : Request) (root : ℕ) (gib : Gib) where
   -- ---- one block
 
-  pub over-one : (b : ℕ) (fr : List ℕ) → storesOver F m q root gib 1 b fr ≡ storesAt F m q root gib b (headD fr 0)
+  pub over-one : (b : ℕ) (fr : List ℕ) → storesOver F m q root gib 1 b fr ≡ storesInGib F m q root gib b (headD fr 0)
   unfolding storesFrom formsIn
-  over-one b fr = append-nil (storesAt F m q root gib b (headD fr 0))
+  over-one b fr = append-nil (storesInGib F m q root gib b (headD fr 0))
 
-  pub pages-one : (b next : ℕ) → next + pagesOver F m q root gib 1 b ≡ (if needsPage (formAt F m q root gib b) (entryAt F m root b) then next + 1 else next)
+  pub pages-one : (b next : ℕ) → next + pagesOver F m q root gib 1 b ≡ (if needsPage (formInGib F m q root gib b) (entryAt F m root b) then next + 1 else next)
   unfolding newPages formsIn
-  pages-one b next = split (needsPage (formAt F m q root gib b) (entryAt F m root b)) (λ z. rw z (omega arith)) (λ z. rw z (omega arith))
+  pages-one b next = split (needsPage (formInGib F m q root gib b) (entryAt F m root b)) (λ z. rw z (omega arith)) (λ z. rw z (omega arith))
 
   -- ---- the first c of several
 
@@ -62,8 +62,8 @@ module _ (F : Frame) (m : List ℕ) (q : Request) (root : ℕ) (gib : Gib) where
   unfolding storesFrom formsIn
   over-first zero d b fr = (storesOver F m q root gib (0 + d) b fr, refl)
   over-first (suc c) d b fr =
-      let new : List Store = storesAt F m q root gib b (headD fr 0) in
-      let fr′ : List ℕ = if needsPage (formAt F m q root gib b) (entryAt F m root b) then tail fr else fr in
+      let new : List Store = storesInGib F m q root gib b (headD fr 0) in
+      let fr′ : List ℕ = if needsPage (formInGib F m q root gib b) (entryAt F m root b) then tail fr else fr in
       let more = over-first c d (suc b) fr′ in
       let u : suc c + d ≡ suc (c + d) = omega arith in (
         more .0,
@@ -80,8 +80,8 @@ module _ (F : Frame) (m : List ℕ) (q : Request) (root : ℕ) (gib : Gib) where
 
   -- block c has one store at the most: its entry becomes what `to` makes of it
   pub record Entrywise (to : ℕ → ℕ) (c : ℕ) : Type 0 where
-    pub stores : (new : ℕ) → storesAt F m q root gib c new ≡ ifChangedL2 F m root c (to (l2Word F m root c))
-    pub page : needsPage (formAt F m q root gib c) (entryAt F m root c) ≡ false
+    pub stores : (new : ℕ) → storesInGib F m q root gib c new ≡ ifChangedL2 F m root c (to (l2Word F m root c))
+    pub page : needsPage (formInGib F m q root gib c) (entryAt F m root c) ≡ false
 
   module _ (to : ℕ → ℕ) where
     pub row-stores : (n b : ℕ) (fr : List ℕ) → ((c : ℕ) → b ≤ c → c < b + n → Entrywise to c) → storesOver F m q root gib n b fr ≡ rowStores m to n (indexOf F root b)
@@ -108,28 +108,28 @@ module _ (F : Frame) (m : List ℕ) (q : Request) (root : ℕ) (gib : Gib) where
 
   -- outside the range, in a GiB that is not: an entry without an L1 page
   module _ (sh : Shape (F .layout)) (low : q .permission < 4) (mixed : gib .one ≡ false) (ro : lent F root ≡ true) (c : ℕ) (g : Good F m (entryAt F m root c))
-      (o : (k : ℕ) → c * blockPages ≤ k → k < c * blockPages + blockPages → inRange q k ≡ false) (some : piecesWord (F .layout) (getD m (indexOf F root c) 0) ≡ 0 → ⊥) where
+      (o : (k : ℕ) → c * blockPages ≤ k → k < c * blockPages + blockPages → inRange q k ≡ false) (some : wordAsPieces (F .layout) (getD m (indexOf F root c) 0) ≡ 0 → ⊥) where
     said : entryAt F m root c ≡ decode (F .layout) (l2Word F m root c)
     unfolding entryAt l2Word wordAt entryPage entryPlace
     said = rw ro refl
 
-    made : (info : ℕ) → wantPieces info ≡ formIn F m q false 0 (entryAt F m root c) c → piecesWord (F .layout) (l2Word F m root c) ≡ F .layout .pieceType * 2 ^ F .layout .infoBits + info
-        → Entrywise F m q root gib (piecesWord (F .layout)) c
+    made : (info : ℕ) → wantPieces info ≡ formIn F m q false 0 (entryAt F m root c) c → wordAsPieces (F .layout) (l2Word F m root c) ≡ F .layout .pieceType * 2 ^ F .layout .infoBits + info
+        → Entrywise F m q root gib (wordAsPieces (F .layout)) c
     unfolding needsPage blockStores encode
     made info z w =
-        let form : formAt F m q root gib c ≡ wantPieces info
+        let form : formInGib F m q root gib c ≡ wantPieces info
         = ap (λ (x : Bool). formIn F m q x (gib .p) (entryAt F m root c) c) mixed ∙ sym (z ∙ form-not F m q (entryAt F m root c) c (gib .p)) in
         record {
           stores = λ new. ap (λ (x : Form). blockStores F m q root x (entryAt F m root c) c new) form ∙ ap (ifChangedL2 F m root c) (sym w);
           page = ap (λ (x : Form). needsPage x (entryAt F m root c)) form;
         }
 
-    pub pieces-entry : Entrywise F m q root gib (piecesWord (F .layout)) c
+    pub pieces-entry : Entrywise F m q root gib (wordAsPieces (F .layout)) c
     unfolding l2Word wordAt entryPage entryPlace
     pieces-entry = go (decode (F .layout) (l2Word F m root c)) refl (decode-small (F .layout) (sh .lawful) (l2Word F m root c))
       where
-        go : (e : Entry) → decode (F .layout) (l2Word F m root c) ≡ e → Small (F .layout) (sh .lawful) e → Entrywise F m q root gib (piecesWord (F .layout)) c
-        go (flat x) z s = made (flatInfo (F .layout) x) (form-flat-out F sh m q low (entryAt F m root c) g c o x (said ∙ z)) (ap (piecesOf (F .layout)) z)
-        go (pieces x) z s = made x (form-pieces-out F sh m q low (entryAt F m root c) g c o x (said ∙ z) s) (ap (piecesOf (F .layout)) z)
-        go (table t) z s = absurd (some (ap (piecesOf (F .layout)) z))
-        go invalid z s = absurd (some (ap (piecesOf (F .layout)) z))
+        go : (e : Entry) → decode (F .layout) (l2Word F m root c) ≡ e → Small (F .layout) (sh .lawful) e → Entrywise F m q root gib (wordAsPieces (F .layout)) c
+        go (flat x) z s = made (flatInfo (F .layout) x) (form-flat-out F sh m q low (entryAt F m root c) g c o x (said ∙ z)) (ap (entryAsPieces (F .layout)) z)
+        go (pieces x) z s = made x (form-pieces-out F sh m q low (entryAt F m root c) g c o x (said ∙ z) s) (ap (entryAsPieces (F .layout)) z)
+        go (table t) z s = absurd (some (ap (entryAsPieces (F .layout)) z))
+        go invalid z s = absurd (some (ap (entryAsPieces (F .layout)) z))

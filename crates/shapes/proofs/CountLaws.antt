@@ -80,21 +80,21 @@ module _ (F : Frame) (sh : Shape (F .layout)) (m : List ℕ) (q : Request) (low 
   pieces-none h = go e refl
     where
       -- the piece's permission, if the entry says of piece i what `says` has
-      asked : (ℕ → ℕ) → ℕ → ℕ
-      asked says i = if inRange q (b * blockPages + i * PP) then q .permission else says i
+      permissionOf : (ℕ → ℕ) → ℕ → ℕ
+      permissionOf says i = if inRange q (b * blockPages + i * PP) then q .permission else says i
 
-      told : (says : ℕ → ℕ) → ((i k : ℕ) → i < F .layout .pieces → b * blockPages + i * PP ≤ k → k < b * blockPages + i * PP + PP → permOf (found F m e k) ≡ says i)
+      no-page-if : (says : ℕ → ℕ) → ((i k : ℕ) → i < F .layout .pieces → b * blockPages + i * PP ≤ k → k < b * blockPages + i * PP + PP → permOf (found F m e k) ≡ says i)
           → needsPage (formIn F m q false 0 e b) e ≡ false
-      told says t =
+      no-page-if says t =
           no-page e
-          (known-form F sh m q low e g b (asked says) (pack 4 (asked says) (F .layout .pieces) 0)
+          (known-form F sh m q low e g b (permissionOf says) (pack 4 (permissionOf says) (F .layout .pieces) 0)
           (λ i k u lo hi. ap₂ (λ (x : Bool) (p : ℕ). if x then q .permission else p) (h i k u lo hi) (t i k u lo hi)) refl)
 
       go : (x : Entry) → e ≡ x → needsPage (formIn F m q false 0 e b) e ≡ false
-      go (flat p) z = told (λ i. p) (λ i k u lo hi. rw z)
-      go (pieces x) z = told (digit 4 x) (λ i k u lo hi. rw z (ap (digit 4 x) (piece-of sh b i k u lo hi)))
+      go (flat p) z = no-page-if (λ i. p) (λ i k u lo hi. rw z)
+      go (pieces x) z = no-page-if (digit 4 x) (λ i k u lo hi. rw z (ap (digit 4 x) (piece-of sh b i k u lo hi)))
       go (table t) z = table-none e (formIn F m q false 0 e b) (ap (needsPage wantTable) z)
-      go invalid z = told (λ i. 0) (λ i k u lo hi. rw z)
+      go invalid z = no-page-if (λ i. 0) (λ i k u lo hi. rw z)
 
   outside-none : ((k : ℕ) → b * blockPages ≤ k → k < b * blockPages + blockPages → inRange q k ≡ false) → needsPage (formIn F m q false 0 e b) e ≡ false
   outside-none h =

@@ -19,7 +19,8 @@ use Rattle.model.specs.Walk.{found}
 use Rattle.shapes.specs.Rooted.{Good}
 use Rattle.shapes.specs.Words.{pieceWords, spreadOf, oldWord, mixedAt}
 use Rattle.shapes.proofs.Shape.{Shape, fields-pos, entry-in-piece, piece-in-block, pn0-of, pn1-of, piece-of-entry}
-use Rattle.shapes.proofs.Fields.{field-clean, field-small, old, pack-const}
+use Rattle.laws.proofs.FieldLaws.{field-small}
+use Rattle.shapes.proofs.Fields.{field-perm, old, pack-const}
 
 module _ (F : Frame) (sh : Shape (F .layout)) (m : List ℕ) where
   abbrev N : ℕ
@@ -53,7 +54,7 @@ module _ (F : Frame) (sh : Shape (F .layout)) (m : List ℕ) where
   old-pack (table t) b i g h small =
       sym (pack-digit 16 (omega arith) N (wordAt F m t i) (at b i) small)
       ∙ pack-cong 16 (λ k. digit 16 (wordAt F m t i) (k - at b i)) (old F m (table t)) N (at b i)
-      (λ k lo hi. rw (g .0, pn1-of sh b i k h lo hi, pn0-of sh b i k h lo hi) (sym (field-clean (F .layout) (wordAt F m t i) (k - at b i) (g .1 i h) (omega arith))))
+      (λ k lo hi. rw (g .0, pn1-of sh b i k h lo hi, pn0-of sh b i k h lo hi) (sym (field-perm (F .layout) (wordAt F m t i) (k - at b i) (g .1 i h) (omega arith))))
   old-pack invalid b i g h small = sym (zero-mul _) ∙ sym (all-of 0 (at b i))
 
   -- ---- and once the edit is whole

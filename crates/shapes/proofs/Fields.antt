@@ -6,17 +6,18 @@ use Prim.Native.Nat.{ℕ, zero, suc, _+_, _*_, _-_, _/_, _^_, _≤_, _<_}
 use native.Mathlib.Nat.{mul-zero, mul-suc, mul-add, add-mul, mul-assoc, mul-one, one-mul, suc-mul, pow-zero, pow-suc, pow-succ', lt-of-lt-of-le, pow-le-pow-right, mul-div-cancel, le-div-iff-mul-le, div-lt-iff-lt-mul}
 use native.Mathlib.Omega.{arith}
 use native.Mathlib.Numerals.{add-one}
-use lib.Dec.{eqb, ltb}
+use lib.Dec.{eqb}
 use lib.Pow.{pow-add}
-use borrow.Author.Tests.{eqb-true, eqb-false, eq-eqb, ne-eqb, ltb-true, leb-true}
+use borrow.Author.Tests.{eqb-true, eqb-false, eq-eqb, ne-eqb}
 use Rattle.model.specs.Layout.{Layout}
 use Rattle.shapes.specs.Words.{ones, mixedAt}
-use Rattle.laws.proofs.Choices.{split, and-true, and-both}
+use Rattle.laws.proofs.Choices.{split, and-both}
 use Rattle.laws.proofs.Digits.{pack-lt, pack-one, digit-pack}
 use Rattle.laws.proofs.Every.{every-step, every-in}
+use Rattle.laws.proofs.FieldLaws.{field-clean}
 use Rattle.model.specs.Entry.{Entry, clean, fieldOf}
 use Rattle.model.specs.Forms.{Request, inRange, permOf}
-use Rattle.model.specs.Frame.{Frame, lent, indexOf}
+use Rattle.model.specs.Frame.{Frame}
 use Rattle.model.specs.Numbers.{every, digit, pack}
 use Rattle.model.specs.Walk.{found}
 
@@ -32,15 +33,6 @@ module _ (x n : ℕ) {d : ℕ} (pos : 0 < d) where
 
   pub ceil-le : (x + (d - 1)) / d ≤ n → x ≤ n * d
   ceil-le h = omega (arith, div-lt-iff-lt-mul {x = x + (d - 1)} {y = suc n} pos .0 (omega arith), suc-mul n d)
-
--- a lent page, as numbers
-pub lent-in : (F : Frame) (p : ℕ) → lent F p ≡ true → (F .first ≤ p) × (p < F .first + F .pages)
-unfolding lent
-lent-in F p h = let k = and-true _ _ h in (leb-true _ _ (k .0), ltb-true _ _ (k .1))
-
-pub index-add : (F : Frame) (p i : ℕ) → indexOf F p 0 + i ≡ indexOf F p i
-unfolding indexOf
-index-add F p i = omega arith
 
 -- ---- one digit throughout
 
@@ -86,13 +78,10 @@ pack-fits base f low n j s h = lt-of-lt-of-le (pack-lt base f low j s) (pow-le-p
 abbrev pub old : Frame → List ℕ → Entry → ℕ → ℕ
 old F m e n = permOf (found F m e n)
 
-pub field-small : (L : Layout) (w i : ℕ) → permOf (fieldOf L w i) < 4
-unfolding permOf fieldOf
-field-small L w i = split (ltb (digit 16 w i) 4) (λ z. rw z (ltb-true _ _ z)) (λ z. rw z (omega arith))
-
-pub field-clean : (L : Layout) (w i : ℕ) → clean L w ≡ true → i < L .fields → permOf (fieldOf L w i) ≡ digit 16 w i
-unfolding permOf fieldOf clean
-field-clean L w i h l = rw (every-in (λ k. ltb (digit 16 w k) 4) (L .fields) 0 h i (omega arith) (omega arith))
+-- the permission of a field of an entry without a reserved bit
+pub field-perm : (L : Layout) (w i : ℕ) → clean L w ≡ true → i < L .fields → permOf (fieldOf L w i) ≡ digit 16 w i
+unfolding permOf
+field-perm L w i h l = ap permOf (field-clean L w i l h)
 
 -- ---- a test of a run: what is left of it at i
 

@@ -7,7 +7,7 @@
 --   EvenLaws    the finished form of a block that is read without an L1 page
 --   GibLaws     the blocks of a GiB
 --   CountLaws   the new pages of an edit, of which only the blocks at the ends of the range take any
---   Runs        making a list of stores up to a limit
+--   RunLaws     making a list of stores up to a limit
 --   Order       where an edit stands between two of its stores
 --   PageLaws    the L1 page of a block
 --   Places      one word of a page: the store into it
@@ -24,7 +24,7 @@ pub mod FormLaws
 pub mod EvenLaws
 pub mod GibLaws
 pub mod CountLaws
-pub mod Runs
+pub mod RunLaws
 pub mod Order
 pub mod PageLaws
 pub mod Places

@@ -18,7 +18,7 @@ use Rattle.shapes.specs.Pages.{Plain, newRun}
 use Rattle.shapes.specs.Run.{allMade, out, run}
 use Rattle.shapes.proofs.Order.{ahead-of, Remaining, remaining-start, remaining-end, remaining-ahead, remaining-next, remaining-cut}
 use Rattle.shapes.proofs.PageLaws.{run-plain}
-use Rattle.shapes.proofs.Runs.{progress-all, progress-cut, joined-end}
+use Rattle.shapes.proofs.RunLaws.{progress-all, progress-cut, joined-end}
 
 -- the stores of a run, from a memory of the same length
 pub run-same : (over : ℕ → Frame) (q : Request) (e : Entry) (b new : ℕ) (m m0 : List ℕ) → Plain e → length m ≡ length m0
@@ -31,11 +31,11 @@ pub record New (over : ℕ → Frame) (q : Request) (e : Entry) (b new : ℕ) (m
   pub past : from ≤ i
   pub few : i ≤ to
   pub size : length m ≡ length m0
-  pub way : Remaining left m0 (newRun (over (length m0)) m0 q e b new (to - from) from) more m (newRun (over (length m0)) m0 q e b new (to - i) i)
+  pub remaining : Remaining left m0 (newRun (over (length m0)) m0 q e b new (to - from) from) more m (newRun (over (length m0)) m0 q e b new (to - i) i)
 
 module _ {over : ℕ → Frame} {q : Request} {e : Entry} {b new : ℕ} {m0 : List ℕ} {left : Budget} {from to : ℕ} where
   pub new-start : Plain e → from ≤ to → Ahead m0 (newRun (over (length m0)) m0 q e b new (to - from) from) → New over q e b new m0 left from to m0 left from
-  new-start pl h a = record { plain = pl; past = omega arith; few = h; size = refl; way = remaining-start refl a }
+  new-start pl h a = record { plain = pl; past = omega arith; few = h; size = refl; remaining = remaining-start refl a }
 
   module _ {m : List ℕ} {more : Budget} {i : ℕ} (s : New over q e b new m0 left from to m more i) where
     abbrev part : ℕ → ℕ → List Store
@@ -52,7 +52,7 @@ module _ {over : ℕ → Frame} {q : Request} {e : Entry} {b new : ℕ} {m0 : Li
           ap (λ (k : ℕ). part k i) u ∙ joined-append (λ k. storeAt (over (length m0)) new k (l1Word (over (length m0)) m0 q e b k) ∷ []) n (to - (i + n)) i
 
       pub new-ahead : Ahead m (newRun (over (length m)) m q e b new n i)
-      new-ahead = ahead-of (sym same-part) (remaining-ahead (s .way) (part n i) _ parts)
+      new-ahead = ahead-of (sym same-part) (remaining-ahead (s .remaining) (part n i) _ parts)
 
       -- they are stored
       module _ (r : Progress) (m′ : List ℕ) (said : out (r .all) (r .left) m′ ≡ run more (newRun (over (length m)) m q e b new n i) m) where
@@ -60,7 +60,7 @@ module _ {over : ℕ → Frame} {q : Request} {e : Entry} {b new : ℕ} {m0 : Li
         step = said ∙ ap (λ (ss : List Store). run more ss m) same-part
 
         pub new-cut : not (r .all) ≡ true → out (r .all) (r .left) m′ ≡ run left (part (to - from) from) m0
-        new-cut t = let z = progress-cut r m′ t in z ∙ remaining-cut (s .way) (part n i) _ parts (sym z ∙ step)
+        new-cut t = let z = progress-cut r m′ t in z ∙ remaining-cut (s .remaining) (part n i) _ parts (sym z ∙ step)
 
         pub new-next : not (r .all) ≡ false → length m′ ≡ length m → New over q e b new m0 left from to m′ (r .left) (i + n)
         new-next t len =
@@ -69,10 +69,10 @@ module _ {over : ℕ → Frame} {q : Request} {e : Entry} {b new : ℕ} {m0 : Li
               past = omega (arith, s .past);
               few = h;
               size = len ∙ s .size;
-              way = remaining-next (s .way) (part n i) _ parts (sym (progress-all r m′ t) ∙ step);
+              remaining = remaining-next (s .remaining) (part n i) _ parts (sym (progress-all r m′ t) ∙ step);
             }
 
     pub new-end : to ≤ i → allMade more m ≡ run left (part (to - from) from) m0
     new-end h =
         let z : to - i ≡ 0 = omega arith in
-        remaining-end (s .way) (joined-end (λ k. storeAt (over (length m0)) new k (l1Word (over (length m0)) m0 q e b k) ∷ []) (to - i) i z)
+        remaining-end (s .remaining) (joined-end (λ k. storeAt (over (length m0)) new k (l1Word (over (length m0)) m0 q e b k) ∷ []) (to - i) i z)

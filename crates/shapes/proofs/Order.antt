@@ -14,7 +14,7 @@ use Rattle.laws.proofs.Lists.{joined-append}
 use Rattle.types.specs.declared.Budget.{Budget}
 use Rattle.shapes.specs.Ahead.{AcceptedEdit, listOf, leaves, Ahead, Turned, NextStore}
 use Rattle.shapes.specs.Run.{allMade, limitReached, run}
-use Rattle.shapes.proofs.Runs.{run-none, run-on, run-off, run-whole}
+use Rattle.shapes.proofs.RunLaws.{run-none, run-on, run-off, run-whole}
 
 -- what the first stores leave
 leaves-made : (e : AcceptedEdit) (made rest : List Store) → listOf e ≡ made ++ rest → leaves e (length made) ≡ apply made (e .found)

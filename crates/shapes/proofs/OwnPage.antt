@@ -24,7 +24,7 @@ use Rattle.shapes.specs.Rooted.{Good}
 use Rattle.shapes.specs.Run.{Out, allMade, limitReached, run}
 use Rattle.shapes.proofs.Order.{ahead-of, Remaining, remaining-start, remaining-end, remaining-ahead, remaining-next, remaining-cut}
 use Rattle.shapes.proofs.PageLaws.{Put, changed-same, entry-stays, l1-clean, put-changed}
-use Rattle.shapes.proofs.Runs.{run-none, run-whole, joined-next}
+use Rattle.shapes.proofs.RunLaws.{run-none, run-whole, joined-next}
 use Rattle.shapes.proofs.Shape.{Shape}
 
 -- page t, as the edit finds it: an L1 page of a sound table, in a memory of whole entries
@@ -64,7 +64,7 @@ pub record Same (over : ℕ → Frame) (q : Request) (t b : ℕ) (m0 : List ℕ)
   pub size : length m ≡ length m0
   pub ahead : (j : ℕ) → i ≤ j → j < over (length m0) .layout .words → wordAt (over (length m0)) m t j ≡ wordAt (over (length m0)) m0 t j
   pub good : Good (over (length m0)) m (table t)
-  pub way : Remaining left m0 (sameTable (over (length m0)) m0 q (table t) b t) more m (ownRun (over (length m0)) m0 q t b (over (length m0) .layout .words - i) i)
+  pub remaining : Remaining left m0 (sameTable (over (length m0)) m0 q (table t) b t) more m (ownRun (over (length m0)) m0 q t b (over (length m0) .layout .words - i) i)
 
 module _ {over : ℕ → Frame} {q : Request} {t b : ℕ} {m0 : List ℕ} {left : Budget} where
   -- the entries below from lie outside the range
@@ -81,7 +81,7 @@ module _ {over : ℕ → Frame} {q : Request} {t b : ℕ} {m0 : List ℕ} {left 
       = ap (λ (n : ℕ). joined gs n 0) u
       ∙ joined-skip gs from (W - from) 0 (λ i lo hi. stay own b 0 from i few (λ k l v. o k v (omega arith)) lo (omega arith))
       ∙ ap (joined gs (W - from)) (zero-add from) in
-      record { own = own; few = few; size = refl; ahead = λ j l v. refl; good = own .good; way = remaining-start skip a }
+      record { own = own; few = few; size = refl; ahead = λ j l v. refl; good = own .good; remaining = remaining-start skip a }
 
   module _ {m : List ℕ} {more : Budget} {i : ℕ} (s : Same over q t b m0 left m more i) where
     abbrev G : Frame
@@ -97,7 +97,7 @@ module _ {over : ℕ → Frame} {q : Request} {t b : ℕ} {m0 : List ℕ} {left 
     pub same-end : (to : ℕ) → ((k : ℕ) → b * blockPages + to * G .layout .fields ≤ k → k < b * blockPages + blockPages → inRange q k ≡ false) → to ≤ i
         → allMade more m ≡ run left (sameTable G m0 q (table t) b t) m0
     same-end to o h =
-        remaining-end (s .way) (joined-none gs (W - i) i
+        remaining-end (s .remaining) (joined-none gs (W - i) i
         (λ j lo hi. stay (s .own) b to W j (omega arith) (λ k l u. o k l (omega (arith, s .own .shape .lawful .pageFields))) (omega arith) (omega (arith, s .few))))
 
     pub same-good : Good (over (length m)) m (table t)
@@ -109,7 +109,7 @@ module _ {over : ℕ → Frame} {q : Request} {t b : ℕ} {m0 : List ℕ} {left 
 
       pub same-ahead : Ahead m (one (over (length m)) m q t b i)
       same-ahead =
-          subst (λ (X : Frame). Ahead m (one X m q t b i)) (sym (ap over (s .size))) (ahead-of (sym as-found) (remaining-ahead (s .way) (gs i) _ (joined-next gs W i h)))
+          subst (λ (X : Frame). Ahead m (one X m q t b i)) (sym (ap over (s .size))) (ahead-of (sym as-found) (remaining-ahead (s .remaining) (gs i) _ (joined-next gs W i h)))
 
       module _ {o : Out} (said : o ≡ run more (one (over (length m)) m q t b i) m) where
         here : o ≡ run more (one G m q t b i) m
@@ -119,7 +119,7 @@ module _ {over : ℕ → Frame} {q : Request} {t b : ℕ} {m0 : List ℕ} {left 
         step = here ∙ ap (λ (ss : List Store). run more ss m) as-found
 
         pub same-cut : {m′ : List ℕ} → o ≡ limitReached m′ → o ≡ run left (sameTable G m0 q (table t) b t) m0
-        same-cut z = z ∙ remaining-cut (s .way) (gs i) _ (joined-next gs W i h) (sym z ∙ step)
+        same-cut z = z ∙ remaining-cut (s .remaining) (gs i) _ (joined-next gs W i h) (sym z ∙ step)
 
         pub same-next : {l : Budget} {m′ : List ℕ} → o ≡ allMade l m′ → Same over q t b m0 left m′ l (i + 1)
         same-next {l} {m′} z =
@@ -137,5 +137,5 @@ module _ {over : ℕ → Frame} {q : Request} {t b : ℕ} {m0 : List ℕ} {left 
                     ap (λ (k : ℕ). clean (G .layout) (wordAt G m′ t k)) same ∙ ap (clean (G .layout)) (wrote .here) ∙ l1-clean G (s .own .shape) m q (s .own .low) (table t) (s .good) b i)
                     (λ y. ap (clean (G .layout)) (wrote .others t j (s .good .0) u (λ x. eqb-false j i y)) ∙ s .good .1 j u),
               );
-              way = remaining-next (s .way) (gs i) _ (joined-next gs W i h) (sym z ∙ step);
+              remaining = remaining-next (s .remaining) (gs i) _ (joined-next gs W i h) (sym z ∙ step);
             }

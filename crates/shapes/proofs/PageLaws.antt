@@ -9,6 +9,7 @@ use lib.Dec.{eqb, ltb}
 use lib.ListN.{length, getD, length-set}
 use lib.Seq.{getD-set-same}
 use borrow.Author.Tests.{eqb-true, eqb-false, eq-eqb, lt-ltb}
+use Rattle.laws.proofs.FrameNumbers.{lent-in}
 use Rattle.laws.proofs.Choices.{split}
 use Rattle.laws.proofs.Digits.{pack-cong, digit-pack}
 use Rattle.laws.proofs.Every.{every-all}
@@ -27,7 +28,6 @@ use Rattle.shapes.specs.Rooted.{Good}
 use Rattle.shapes.specs.Pages.{Plain, newRun}
 use Rattle.shapes.specs.Rows.{fillStores}
 use Rattle.shapes.proofs.Shape.{Shape, pn1-of}
-use Rattle.shapes.proofs.Fields.{lent-in}
 use Rattle.shapes.proofs.EntryLaws.{after-small, after-16, word-outside}
 
 -- the entry behind it stands at the next word

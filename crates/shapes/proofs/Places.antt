@@ -5,6 +5,7 @@ use mathlib.Core.List.{List, [], _∷_}
 use Prim.Native.Nat.{ℕ, _+_}
 use lib.Dec.{eqb}
 use lib.ListN.{length, getD}
+use Rattle.laws.proofs.FrameNumbers.{index-add}
 use Rattle.model.specs.Entry.{Entry}
 use Rattle.model.specs.Frame.{Frame, lent, wordAt, indexOf}
 use Rattle.model.specs.Numbers.{if_then_else_}
@@ -15,7 +16,6 @@ use Rattle.shapes.specs.Pages.{Plain}
 use Rattle.shapes.specs.Rooted.{Good}
 use Rattle.shapes.specs.Rows.{changeAt}
 use Rattle.shapes.specs.Run.{Out, run}
-use Rattle.shapes.proofs.Fields.{index-add}
 use Rattle.shapes.proofs.Order.{ahead-of}
 use Rattle.shapes.proofs.PageLaws.{good-plain}
 

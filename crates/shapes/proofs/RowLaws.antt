@@ -19,7 +19,7 @@ use Rattle.shapes.specs.Ahead.{Ahead}
 use Rattle.shapes.specs.Rows.{changeAt, rowStores, fillStores, differs}
 use Rattle.shapes.specs.Run.{Out, allMade, limitReached, out, run}
 use Rattle.shapes.proofs.Order.{ahead-of, ahead-joined}
-use Rattle.shapes.proofs.Runs.{run-none, run-on, run-off, run-whole}
+use Rattle.shapes.proofs.RunLaws.{run-none, run-on, run-off, run-whole}
 
 -- a store of one word, or none, keeps the length and every other word
 pub change-length : (m m′ : List ℕ) (to : ℕ → ℕ) (k : ℕ) → length (apply (changeAt m′ to k) m) ≡ length m

@@ -42,12 +42,12 @@ abbrev pub GibIs : frame.Frame → List ℕ → model.Request → ℕ → ℕ �
 GibIs F m q root g gib = (gib .p ≡ model.gibFirst F m q root g) × (gib .one ≡ model.gibIsOne F m q root g (gib .p)) × (gib .p < 4)
 
 -- the finished form of block b
-abbrev pub formAt : frame.Frame → List ℕ → model.Request → ℕ → Gib → ℕ → model.Form
-formAt F m q root gib b = model.formIn F m q (gib .one) (gib .p) (walk.entryAt F m root b) b
+abbrev pub formInGib : frame.Frame → List ℕ → model.Request → ℕ → Gib → ℕ → model.Form
+formInGib F m q root gib b = model.formIn F m q (gib .one) (gib .p) (walk.entryAt F m root b) b
 
 -- its stores; and those of n blocks from b, with the free pages in order, and how many new pages they take
-abbrev pub storesAt : frame.Frame → List ℕ → model.Request → ℕ → Gib → ℕ → ℕ → List stores.Store
-storesAt F m q root gib b new = stores.blockStores F m q root (formAt F m q root gib b) (walk.entryAt F m root b) b new
+abbrev pub storesInGib : frame.Frame → List ℕ → model.Request → ℕ → Gib → ℕ → ℕ → List stores.Store
+storesInGib F m q root gib b new = stores.blockStores F m q root (formInGib F m q root gib b) (walk.entryAt F m root b) b new
 
 abbrev pub storesOver : frame.Frame → List ℕ → model.Request → ℕ → Gib → ℕ → ℕ → List ℕ → List stores.Store
 storesOver F m q root gib n b free = stores.storesFrom F m q root b (model.formsIn F m q root (gib .one) (gib .p) n b) free

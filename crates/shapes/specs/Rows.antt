@@ -28,16 +28,16 @@ abbrev pub differs : List ℕ → ℕ → ℕ → Bool
 differs m word k = not (eqb (getD m k 0) word)
 
 -- the entry by pieces that says the same as an entry without an L1 page; zero for any other
-abbrev pub piecesOf : Layout → entry.Entry → ℕ
-piecesOf L (entry.flat p) = L .pieceType * 2 ^ L .infoBits + flatInfo L p
-piecesOf L (entry.pieces info) = L .pieceType * 2 ^ L .infoBits + info
-piecesOf L (entry.table t) = 0
-piecesOf L entry.invalid = 0
+abbrev pub entryAsPieces : Layout → entry.Entry → ℕ
+entryAsPieces L (entry.flat p) = L .pieceType * 2 ^ L .infoBits + flatInfo L p
+entryAsPieces L (entry.pieces info) = L .pieceType * 2 ^ L .infoBits + info
+entryAsPieces L (entry.table t) = 0
+entryAsPieces L entry.invalid = 0
 
-abbrev pub piecesWord : Layout → ℕ → ℕ
-piecesWord L w = piecesOf L (entry.decode L w)
+abbrev pub wordAsPieces : Layout → ℕ → ℕ
+wordAsPieces L w = entryAsPieces L (entry.decode L w)
 
 -- ahead is the row of the words from at, n at the most, up to the first with an L1 page
 abbrev pub PiecesAhead : Layout → List ℕ → ℕ → ℕ → Type 0
 PiecesAhead L m n at =
-    (c : ℕ) → c ≤ n → ((k : ℕ) → at ≤ k → k < at + c → piecesWord L (getD m k 0) ≡ 0 → ⊥) → Ahead m (rowStores m (piecesWord L) c at)
+    (c : ℕ) → c ≤ n → ((k : ℕ) → at ≤ k → k < at + c → wordAsPieces L (getD m k 0) ≡ 0 → ⊥) → Ahead m (rowStores m (wordAsPieces L) c at)

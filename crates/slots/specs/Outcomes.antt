@@ -16,8 +16,8 @@ abbrev pub outcomeOf : Outcome → List ℕ → calls.Outcome
 outcomeOf o m = record { reply = replyOf (o .reply); memory = m; slots = o .slots; fence = fenceOf (o .fence) }
 
 -- "A refusal returns its number, changes .. no slot, and asks for no fence."
-abbrev pub refusedWith : Refusal → List ℕ → Outcome
-refusedWith r slots = record { reply = Refused r; slots = slots; fence = Nothing }
+abbrev pub refusedOutcome : Refusal → List ℕ → Outcome
+refusedOutcome r slots = record { reply = Refused r; slots = slots; fence = Nothing }
 
 -- "Closing empties the slot, writes no byte and asks for a domain fence."
 abbrev pub closedAt : List ℕ → ℕ → Outcome

@@ -5,6 +5,6 @@ use lib.ListN.{replicate}
 use lib.Seq.{sets}
 use Rattle.table.specs.Board.{PAGE-WORDS}
 
--- the 512 words from at are zero
+-- the words of the page that starts at word at are zero
 unfoldable pub zeroed : List ℕ → ℕ → List ℕ
 zeroed m at = sets m at (replicate PAGE-WORDS 0)

@@ -1,12 +1,12 @@
 // The slots: what a call answers and leaves, what it asks of the slot that it names, and opening and closing one.
 // `open` and `close` are outward calls, which `monitor` brings out.
 pub mod named;
-mod page;
+mod zero;
 
 use crate::named::bad_sdid;
 use crate::named::not_empty;
 use crate::named::not_open;
-use crate::page::zero_page;
+use crate::zero::zero_page;
 use sound::admit;
 use sound::no_pages;
 use sound::pick::free_pages;
@@ -16,6 +16,7 @@ use table::register;
 use types::Admission;
 use types::Fence;
 use types::Frame;
+use types::Marks;
 use types::PageNumber;
 use types::Refusal;
 use types::Reply;
@@ -26,7 +27,7 @@ ghost use Prim.Native.Nat.{_<_};
 ghost use Rattle.model.specs.Frame as frame;
 ghost use Rattle.model.specs.Calls as calls;
 ghost use Rattle.scan.specs.Admission.{Admitted};
-ghost use Rattle.slots.specs.Outcomes.{outcomeOf, refusedWith, closedAt};
+ghost use Rattle.slots.specs.Outcomes.{outcomeOf, refusedOutcome, closedAt};
 ghost use Rattle.table.specs.Board.{frameOf};
 
 // What a call leaves, beside the lent memory.
@@ -37,7 +38,7 @@ pub struct Outcome {
 }
 
 pub fn refused(why: Refusal, slots: [Word; 8]) -> Outcome
-    ensures { λ r. ⌜ r ≡ refusedWith why slots ⌝ }
+    ensures { λ r. ⌜ r ≡ refusedOutcome why slots ⌝ }
 {
     Outcome {
         reply: Reply::Refused(why),
@@ -75,7 +76,7 @@ fn open_admitted(
     slots: [Word; 8],
     slot: u64,
     sdid: Sdid,
-    used: &[bool; 256],
+    used: &Marks,
 ) -> Outcome
     requires { ⌜ Admitted (frameOf f (now words)) (now words) slots (now used) ⌝ }
     ensures { λ r. ⌜ outcomeOf r (now (words .exit)) ≡ calls.openSlot (frameOf f (now (words .entry))) (now (words .entry)) slots slot (sdid .0) ⌝ }

@@ -11,6 +11,7 @@ use table::word;
 use types::Admission;
 use types::Entry;
 use types::Frame;
+use types::Marks;
 use types::PageNumber;
 use types::Refusal;
 ghost use mathlib.Core.Path.{_≡_};
@@ -23,7 +24,7 @@ ghost use Rattle.model.specs.Frame.{boundsOk};
 ghost use Rattle.table.specs.Board.{board, frameOver, frameOf};
 ghost use Rattle.types.specs.Views.{entryOf};
 ghost use Rattle.scan.specs.Admission.{AdmissionIs};
-ghost use Rattle.scan.specs.Scan.{answer, scanAll, scanRun, claimOf, linkStep, entryStep, wordStep, rootStep, slotStep, registerStep};
+ghost use Rattle.scan.specs.Scan.{scanned, scanAll, scanRun, claimOf, linkStep, entryStep, wordStep, rootStep, slotStep, registerStep};
 
 // "all reserved bits in it are zero": the words are gathered by `|` and tested once.
 fn clean(words: &[Word], at: usize) -> bool
@@ -38,9 +39,9 @@ fn clean(words: &[Word], at: usize) -> bool
 }
 
 // Marks a page, if it is lent and not marked.
-fn claim(f: Frame, n: usize, page: PageNumber, used: &mut [bool; 256]) -> bool
+fn claim(f: Frame, n: usize, page: PageNumber, used: &mut Marks) -> bool
     requires { ⌜ boundsOk (frameOver f n) ≡ true ⌝ }
-    ensures { λ r. ⌜ answer r (now (used .exit)) ≡ claimOf (frameOver f n) (now (used .entry)) (page .0) ⌝ }
+    ensures { λ r. ⌜ scanned r (now (used .exit)) ≡ claimOf (frameOver f n) (now (used .entry)) (page .0) ⌝ }
 {
     if lent::is_lent(f, n, page) {
         let at = (page.0 - f.first.0) as usize;
@@ -54,9 +55,9 @@ fn claim(f: Frame, n: usize, page: PageNumber, used: &mut [bool; 256]) -> bool
 }
 
 // The page that a TYPE 4 entry names.
-fn link(f: Frame, words: &[Word], table: PageNumber, used: &mut [bool; 256]) -> bool
+fn link(f: Frame, words: &[Word], table: PageNumber, used: &mut Marks) -> bool
     requires { ⌜ boundsOk (frameOf f (now words)) ≡ true ⌝ }
-    ensures { λ r. ⌜ answer r (now (used .exit)) ≡ linkStep (frameOf f (now (words .entry))) (now (words .entry)) (now (used .entry)) (table .0) ⌝ }
+    ensures { λ r. ⌜ scanned r (now (used .exit)) ≡ linkStep (frameOf f (now (words .entry))) (now (words .entry)) (now (used .entry)) (table .0) ⌝ }
 {
     if claim(f, words.len(), table, used) {
         return clean(words, lent::page_at(f, words, table));
@@ -64,9 +65,9 @@ fn link(f: Frame, words: &[Word], table: PageNumber, used: &mut [bool; 256]) -> 
     false
 }
 
-fn entry(f: Frame, words: &[Word], e: Entry, used: &mut [bool; 256]) -> bool
+fn entry(f: Frame, words: &[Word], e: Entry, used: &mut Marks) -> bool
     requires { ⌜ boundsOk (frameOf f (now words)) ≡ true ⌝ }
-    ensures { λ r. ⌜ answer r (now (used .exit)) ≡ entryStep (frameOf f (now (words .entry))) (now (words .entry)) (now (used .entry)) (entryOf e) ⌝ }
+    ensures { λ r. ⌜ scanned r (now (used .exit)) ≡ entryStep (frameOf f (now (words .entry))) (now (words .entry)) (now (used .entry)) (entryOf e) ⌝ }
 {
     match e {
         Entry::Flat(_) => true,
@@ -77,9 +78,9 @@ fn entry(f: Frame, words: &[Word], e: Entry, used: &mut [bool; 256]) -> bool
 }
 
 // The count entries whose words start at at. The count is handed in, so that the loop is compiled against a plain number.
-fn entries(f: Frame, words: &[Word], at: usize, count: usize, used: &mut [bool; 256]) -> bool
+fn entries(f: Frame, words: &[Word], at: usize, count: usize, used: &mut Marks) -> bool
     requires { ⌜ (boundsOk (frameOf f (now words)) ≡ true) × (at + count ≤ length (now words)) ⌝ }
-    ensures { λ r. ⌜ answer r (now (used .exit)) ≡ scanRun (wordStep (frameOf f (now (words .entry))) (now (words .entry)) at) (now (used .entry)) count 0 ⌝ }
+    ensures { λ r. ⌜ scanned r (now (used .exit)) ≡ scanRun (wordStep (frameOf f (now (words .entry))) (now (words .entry)) at) (now (used .entry)) count 0 ⌝ }
 {
     for b in 0..count {
         if !entry(f, words, word::decode(words[at + b]), used) {
@@ -90,9 +91,9 @@ fn entries(f: Frame, words: &[Word], at: usize, count: usize, used: &mut [bool; 
 }
 
 // A root: the page itself, then "The first 2^(PAW-25) entries of each root"; "the rest of the page is never read".
-fn root(f: Frame, words: &[Word], page: PageNumber, used: &mut [bool; 256]) -> bool
+fn root(f: Frame, words: &[Word], page: PageNumber, used: &mut Marks) -> bool
     requires { ⌜ boundsOk (frameOf f (now words)) ≡ true ⌝ }
-    ensures { λ r. ⌜ answer r (now (used .exit)) ≡ rootStep (frameOf f (now (words .entry))) (now (words .entry)) (now (used .entry)) (page .0) ⌝ }
+    ensures { λ r. ⌜ scanned r (now (used .exit)) ≡ rootStep (frameOf f (now (words .entry))) (now (words .entry)) (now (used .entry)) (page .0) ⌝ }
 {
     if claim(f, words.len(), page, used) {
         let count = lent::block_count(f, words.len());
@@ -102,9 +103,9 @@ fn root(f: Frame, words: &[Word], page: PageNumber, used: &mut [bool; 256]) -> b
     false
 }
 
-fn slot(f: Frame, words: &[Word], register: Word, used: &mut [bool; 256]) -> bool
+fn slot(f: Frame, words: &[Word], register: Word, used: &mut Marks) -> bool
     requires { ⌜ boundsOk (frameOf f (now words)) ≡ true ⌝ }
-    ensures { λ r. ⌜ answer r (now (used .exit)) ≡ slotStep (frameOf f (now (words .entry))) (now (words .entry)) (now (used .entry)) register ⌝ }
+    ensures { λ r. ⌜ scanned r (now (used .exit)) ≡ slotStep (frameOf f (now (words .entry))) (now (words .entry)) (now (used .entry)) register ⌝ }
 {
     if register == 0 {
         return true;
@@ -112,9 +113,9 @@ fn slot(f: Frame, words: &[Word], register: Word, used: &mut [bool; 256]) -> boo
     root(f, words, register::ppn(register), used)
 }
 
-fn tables(f: Frame, words: &[Word], slots: [Word; 8], used: &mut [bool; 256]) -> bool
+fn tables(f: Frame, words: &[Word], slots: [Word; 8], used: &mut Marks) -> bool
     requires { ⌜ boundsOk (frameOf f (now words)) ≡ true ⌝ }
-    ensures { λ r. ⌜ answer r (now (used .exit)) ≡ scanAll (slotStep (frameOf f (now (words .entry))) (now (words .entry))) (now (used .entry)) slots ⌝ }
+    ensures { λ r. ⌜ scanned r (now (used .exit)) ≡ scanAll (slotStep (frameOf f (now (words .entry))) (now (words .entry))) (now (used .entry)) slots ⌝ }
 {
     for i in 0..8usize {
         if !slot(f, words, slots[i], used) {
@@ -126,7 +127,7 @@ fn tables(f: Frame, words: &[Word], slots: [Word; 8], used: &mut [bool; 256]) ->
 
 // A slot's register; held has a mark for each SDID.
 fn register(r: Word, held: &mut [bool; 64]) -> bool
-    ensures { λ r′. ⌜ answer r′ (now (held .exit)) ≡ registerStep board (now (held .entry)) r ⌝ }
+    ensures { λ r′. ⌜ scanned r′ (now (held .exit)) ≡ registerStep board (now (held .entry)) r ⌝ }
 {
     if r == 0 {
         return true;
@@ -146,7 +147,7 @@ fn register(r: Word, held: &mut [bool; 64]) -> bool
 }
 
 fn registers(slots: [Word; 8], held: &mut [bool; 64]) -> bool
-    ensures { λ r. ⌜ answer r (now (held .exit)) ≡ scanAll (registerStep board) (now (held .entry)) slots ⌝ }
+    ensures { λ r. ⌜ scanned r (now (held .exit)) ≡ scanAll (registerStep board) (now (held .entry)) slots ⌝ }
 {
     for i in 0..8usize {
         if !register(slots[i], held) {
@@ -157,7 +158,7 @@ fn registers(slots: [Word; 8], held: &mut [bool; 64]) -> bool
 }
 
 // No page is marked.
-pub fn no_pages() -> [bool; 256]
+pub fn no_pages() -> Marks
     ensures { λ r. ⌜ r ≡ replicate 256 false ⌝ }
 {
     [false; 256]
@@ -171,7 +172,7 @@ fn no_sdids() -> [bool; 64]
 
 // What each call but a lookup asks first: "frame breaks its bounds", and then "table not sound", the registers of the open slots before
 // their tables. If neither fits, used has a mark for each page in use.
-pub fn admit(f: Frame, words: &[Word], slots: [Word; 8], used: &mut [bool; 256]) -> Admission
+pub fn admit(f: Frame, words: &[Word], slots: [Word; 8], used: &mut Marks) -> Admission
     requires { ⌜ now used ≡ replicate 256 false ⌝ }
     ensures { λ r. ⌜ AdmissionIs (frameOf f (now (words .entry))) (now (words .entry)) slots r (now (used .exit)) ⌝ }
 {

@@ -2,6 +2,7 @@
 use table::board::PAGE_WORDS;
 use types::Frame;
 use types::Free;
+use types::Marks;
 use types::PageNumber;
 ghost use mathlib.Core.Path.{_≡_};
 ghost use mathlib.Core.Bool.{true, false};
@@ -12,7 +13,7 @@ ghost use Rattle.table.specs.Board.{frameOver};
 ghost use Rattle.scan.specs.FreeMarks.{clearPages, listed};
 
 // The first of the places from `from` up to `pages` that has no mark; `pages` if each has one.
-fn next_clear(used: &[bool; 256], from: usize, pages: usize) -> usize
+fn next_clear(used: &Marks, from: usize, pages: usize) -> usize
     requires { ⌜ (from ≤ pages) × (pages ≤ 256) ⌝ }
     ensures { λ r. ⌜ (from ≤ r) × (r ≤ pages) × ((k : ℕ) → from ≤ k → k < r → getD (now (used .entry)) k false ≡ true)
         × (r < pages → getD (now (used .entry)) r false ≡ false) ⌝ }
@@ -26,7 +27,7 @@ fn next_clear(used: &[bool; 256], from: usize, pages: usize) -> usize
 }
 
 // The two lowest of the lent pages that have no mark, and whether there are none, one or two.
-pub fn free_pages(f: Frame, n: usize, used: &[bool; 256]) -> Free
+pub fn free_pages(f: Frame, n: usize, used: &Marks) -> Free
     requires { ⌜ boundsOk (frameOver f n) ≡ true ⌝ }
     ensures { λ r. ⌜ r ≡ listed (clearPages (frameOver f n) (now (used .entry))) ⌝ }
 {

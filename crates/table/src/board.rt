@@ -21,7 +21,7 @@ pub const LAST_PIECE: u64 = PIECES - 1;
 // Entries and bytes of a piece.
 pub const PIECE_WORDS: u64 = PAGE_WORDS as u64 / PIECES;
 
-pub const PIECE_BYTES: u64 = PIECE_PAGES * 4096;
+pub const PIECE_BYTES: u64 = PIECE_PAGES * types::pages::PAGE_BYTES;
 
 pub const PIECE_ROUND_UP: u64 = PIECE_PAGES - 1;
 

@@ -23,7 +23,7 @@ pub const FIELD_VALUES: u64 = 16;
 
 pub const PERMISSION_BITS: u64 = 2;
 
-pub const PERMISSIONS: u64 = 4;
+const PERMISSIONS: u64 = 4;
 
 // What an L2 entry says. TYPE is taken with ZERO above it: a number above 7 is no type. The page number of an L1 page is all of INFO.
 pub fn decode(word: Word) -> Entry
@@ -58,7 +58,7 @@ pub fn piece(info: u64, i: u64) -> u64
 }
 
 // Field i of an L1 entry.
-pub fn field(word: Word, i: u64) -> u64
+fn field(word: Word, i: u64) -> u64
     requires { ⌜ i < board .fields ⌝ }
     ensures { λ r. ⌜ (r ≡ digit 16 word i) × (r < 16) ⌝ }
 {

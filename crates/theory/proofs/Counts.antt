@@ -26,7 +26,7 @@ use Rattle.theory.proofs.Used.{links, passes}
 use Rattle.theory.proofs.Frames.{Ok, entry-in-block, page-parts, piece-of, piece-pos, pn1-of, pn2-of}
 use Rattle.theory.proofs.Tables.{Sound, link-in}
 use Rattle.theory.proofs.Walks.{found-table}
-use Rattle.theory.proofs.Finds.{field-clean}
+use Rattle.laws.proofs.FieldLaws.{field-clean}
 use Rattle.theory.proofs.Plans.{AllAt}
 use Rattle.theory.proofs.Forms.{forms-all, forms-length}
 use Rattle.theory.proofs.Free.{at-most-one}
@@ -161,7 +161,7 @@ module _ (F : Frame) (ok : Ok F) (q : Request) (m : List ℕ) (ro : ℕ) where
             kept (table t) k bb
             ∙ ap permOf (found-table F m t k (s .linksLent t linked))
             ∙ ap₂ (λ (x y : ℕ). permOf (fieldOf (F .layout) (wordAt F m t x) y)) ii zz
-            ∙ ap permOf (field-clean F ok (wordAt F m t i) (k - s0) (omega arith) (s .linksClean t i linked h)))
+            ∙ ap permOf (field-clean (F .layout) (wordAt F m t i) (k - s0) (omega arith) (s .linksClean t i linked h)))
             ∙ pack-digit 16 (omega arith) (F .layout .fields) (wordAt F m t i) s0 (word-bound t i)
 
         none-changed : length (sameTable F m q (table t) b t) ≡ 0

@@ -1,12 +1,12 @@
 -- What a walk finds: one of four permissions, and in a sound table always one. The L1 entries that an edit wants.
-use mathlib.Core.Path.{_≡_, refl, sym, ap, ap₂, _∙_, subst}
+use mathlib.Core.Path.{_≡_, refl, sym, ap, ap₂, _∙_}
 use mathlib.Core.Bool.{true, false, false≢true}
 use mathlib.Core.List.{List}
 use Prim.Native.Nat.{ℕ, _+_, _*_, _^_, _<_}
 use native.Mathlib.Nat.{zero-add}
 use native.Mathlib.Omega.{arith}
 use lib.Dec.{ltb}
-use borrow.Author.Tests.{ltb-true, lt-ltb}
+use borrow.Author.Tests.{lt-ltb}
 use Rattle.model.specs.Numbers.{digit, pack}
 use Rattle.model.specs.Entry.{Entry, Found, clean, fieldOf, flat, invalid, perm, pieces, table}
 use Rattle.model.specs.Frame.{Frame, lent, space, wordAt}
@@ -14,7 +14,8 @@ use Rattle.model.specs.Walk.{entryAt, entryPage, found, l2Word, pieceOf, pn0, p
 use Rattle.model.specs.Forms.{Request, after, afterIn, inRange, l1Word, permOf}
 use Rattle.laws.proofs.Choices.{split}
 use Rattle.laws.proofs.Digits.{digit-lt, digit-pack, pack-cong, pack-lt}
-use Rattle.laws.proofs.Every.{every-all, every-at}
+use Rattle.laws.proofs.Every.{every-all}
+use Rattle.laws.proofs.FieldLaws.{field-small, field-clean}
 use Rattle.laws.proofs.Times.{times}
 use Rattle.theory.proofs.Used.{links, passes}
 use Rattle.theory.proofs.Entries.{Small, decode-small}
@@ -27,25 +28,12 @@ module _ (F : Frame) (ok : Ok F) where
   unfolding entryAt
   entry-small m r b = split (lent F (entryPage F r b)) (λ q. rw q (decode-small (F .layout) (ok .lawful) (l2Word F m r b))) (λ q. rw q tt)
 
-  -- The two laws of an L1 field. (Document 02, item 3, changes what they are proved from, and nothing that uses them.)
-
-  field-small : (w i : ℕ) → permOf (fieldOf (F .layout) w i) < 4
-  unfolding fieldOf permOf
-  field-small w i = split (ltb (digit 16 w i) 4) (λ q. rw q (ltb-true (digit 16 w i) 4 q)) (λ q. rw q (omega arith))
-
-  pub field-clean : (w i : ℕ) → i < F .layout .fields → clean (F .layout) w ≡ true → fieldOf (F .layout) w i ≡ perm (digit 16 w i)
-  unfolding clean fieldOf
-  field-clean w i h c =
-      let low : ltb (digit 16 w i) 4 ≡ true
-      = subst (λ (k : ℕ). ltb (digit 16 w k) 4 ≡ true) (zero-add i) (every-at (λ k. ltb (digit 16 w k) 4) (F .layout .fields) 0 c i h) in
-      rw low
-
   pub found-small : (m : List ℕ) (e : Entry) (n : ℕ) → Small (F .layout) (ok .lawful) e → permOf (found F m e n) < 4
   unfolding found permOf
   found-small m (flat p) n h = h
   found-small m (pieces i) n h = digit-lt 4 i (pieceOf (F .layout) n) (omega arith)
   found-small m (table t) n h =
-      split (lent F t) (λ q. rw q (field-small (wordAt F m t (pn1 (F .layout) n)) (pn0 (F .layout) n))) (λ q. rw q (omega arith))
+      split (lent F t) (λ q. rw q (field-small (F .layout) (wordAt F m t (pn1 (F .layout) n)) (pn0 (F .layout) n))) (λ q. rw q (omega arith))
   found-small m invalid n h = omega arith
 
   pub afterIn-small : (m : List ℕ) (q : Request) (ro b n : ℕ) → q .permission < 4 → afterIn F m q (entryAt F m ro b) n < 4
@@ -74,7 +62,7 @@ module _ (F : Frame) (ok : Ok F) where
       finds (table t) q h =
           let linked : 0 < times t (links F m rs) = link-in F rs m r (pn2 n) t l (pn2-lt F ok n u) q in
           rw (s .linksLent t linked)
-          (finds-perm _ _ (field-clean (wordAt F m t (pn1 (F .layout) n)) (pn0 (F .layout) n) (pn0-lt F ok n) (s .linksClean t (pn1 (F .layout) n) linked (pn1-lt F ok n))))
+          (finds-perm _ _ (field-clean (F .layout) (wordAt F m t (pn1 (F .layout) n)) (pn0 (F .layout) n) (pn0-lt F ok n) (s .linksClean t (pn1 (F .layout) n) linked (pn1-lt F ok n))))
       finds invalid q h = absurd (false≢true h)
 
   -- outside the range the edit leaves what the walk finds
@@ -118,5 +106,5 @@ module _ (F : Frame) (ok : Ok F) where
     wanted-field b i n bb ii =
         let at : b * 8192 + i * F .layout .fields + pn0 (F .layout) n ≡ n
         = ap₂ (λ (x y : ℕ). x * 8192 + y * F .layout .fields + pn0 (F .layout) n) (sym bb) (sym ii) ∙ sym (page-parts F ok n) in
-        field-clean (wanted A b i) (pn0 (F .layout) n) (pn0-lt F ok n) (wanted-clean b i)
+        field-clean (F .layout) (wanted A b i) (pn0 (F .layout) n) (pn0-lt F ok n) (wanted-clean b i)
         ∙ ap perm (digit-pack 16 A low (F .layout .fields) (b * 8192 + i * F .layout .fields) (pn0 (F .layout) n) (pn0-lt F ok n) ∙ ap A at)

@@ -31,7 +31,7 @@
 --   Finished     what a whole call leaves
 --   Ends         the two ends of a range
 --   Counts       how many stores
---   NewPages     at most two new pages, and that the stores depend on those alone
+--   PagesTaken   at most two new pages, and that the stores depend on those alone
 --   Demands      demands 2 and 3
 -- For the code
 -- Opening and closing
@@ -66,7 +66,7 @@ pub mod CutsFree
 pub mod Finished
 pub mod Ends
 pub mod Counts
-pub mod NewPages
+pub mod PagesTaken
 pub mod Demands
 pub mod OneSlot
 pub mod Zeroed

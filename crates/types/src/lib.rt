@@ -1,7 +1,7 @@
 // The types of the monitor, the same on every board, and what is said of them alone.
 pub mod bits;
-pub mod blocks;
 pub mod code;
+pub mod needed_page;
 pub mod number;
 pub mod pages;
 pub mod rights;
@@ -107,6 +107,9 @@ pub enum Admission {
     Refused(Refusal),
 }
 
+// A mark for each lent page, of which no board has more.
+pub type Marks = [bool; 256];
+
 // What an edit asks. The permission is its two bits, as an entry holds them.
 pub struct Request {
     pub slot: u64,
@@ -174,20 +177,20 @@ pub struct Budget {
     pub last: usize,
 }
 
-// How the stores went: all were made, and what is left; or the limit cut them.
+// The progress of some stores: all were made, and what is left; or the limit cut them.
 pub struct Progress {
     pub left: Budget,
     pub all: bool,
 }
 
-// How a row of entries went, and how many of them it was.
+// The progress of a row of entries, and how many of them it was.
 pub struct RowProgress {
     pub left: Budget,
     pub count: usize,
     pub all: bool,
 }
 
-// How some blocks went, the next new page, and how many blocks it was.
+// The progress of some blocks, the next new page, and how many blocks it was.
 pub struct BlocksProgress {
     pub left: Budget,
     pub next: u64,

@@ -104,10 +104,10 @@ pub fn cause_of(kind: Kind) -> Cause
     }
 }
 
-pub fn is_machine(who: Privilege) -> bool
-    ensures { λ r. ⌜ r ≡ lookup.isMachine (privilegeOf who) ⌝ }
+pub fn is_machine(privilege: Privilege) -> bool
+    ensures { λ r. ⌜ r ≡ lookup.isMachine (privilegeOf privilege) ⌝ }
 {
-    match who {
+    match privilege {
         Privilege::Machine => true,
         Privilege::Supervisor => false,
         Privilege::User => false,

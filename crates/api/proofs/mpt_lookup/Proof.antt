@@ -35,22 +35,22 @@ enum-told-2 : tie.Need-enum-told-2
 enum-told-2 c = search needs
 
 -- a code that is known names the privilege, and the kind of access
-names-who : (c : tie.After-p) → let a = c .before .before .before .before .args in privilegeAt (a .privilege) ≡ known (privilegeOf (c .p .given .0 .0))
-names-who c = sym (c .before .before .privilege-at .ensures) ∙ ap privilegeCodeOf (c .p .given .1)
+names-privilege : (c : tie.After-p) → let a = c .before .before .before .before .args in privilegeAt (a .privilege) ≡ known (privilegeOf (c .p .given .0 .0))
+names-privilege c = sym (c .before .before .privilege-at .ensures) ∙ ap privilegeCodeOf (c .p .given .1)
 
-names-what : (c : tie.After-k) → let a = c .before .before .before .before .before .before .before .before .args in kindAt (a .kind) ≡ known (kindOf (c .k .given .0 .0))
-names-what c = sym (c .before .before .kind-at .ensures) ∙ ap kindCodeOf (c .k .given .1)
+names-kind : (c : tie.After-k) → let a = c .before .before .before .before .before .before .before .before .args in kindAt (a .kind) ≡ known (kindOf (c .k .given .0 .0))
+names-kind c = sym (c .before .before .kind-at .ensures) ∙ ap kindCodeOf (c .k .given .1)
 
 returns : tie.Need-returns
 returns c =
     let l = c .before in
     let k = l .before .before .before in
-    rw (names-who (k .before .before .before .before), names-what k) (c .answer-word .ensures ∙ ap answerWord (l .lookup .ensures))
+    rw (names-privilege (k .before .before .before .before), names-kind k) (c .answer-word .ensures ∙ ap answerWord (l .lookup .ensures))
 
 returns-2 : tie.Need-returns-2
 returns-2 c =
     let w = c .before .before in
-    rw (names-who (w .before .before), sym (w .kind-at .ensures) ∙ ap kindCodeOf (c .enum-told .given .1)) refl
+    rw (names-privilege (w .before .before), sym (w .kind-at .ensures) ∙ ap kindCodeOf (c .enum-told .given .1)) refl
 
 returns-3 : tie.Need-returns-3
 returns-3 c = rw (sym (c .before .before .privilege-at .ensures) ∙ ap privilegeCodeOf (c .enum-told2 .given .1)) refl

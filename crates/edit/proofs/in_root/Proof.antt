@@ -5,7 +5,7 @@ use native.Mathlib.Omega.{arith}
 use lib.Dec.{ltb}
 use borrow.Author.Tests.{le-leb, lt-leb}
 use borrow.Author.Needs.{needs}
-use Rattle.shapes.proofs.Fields.{index-add}
+use Rattle.laws.proofs.FrameNumbers.{index-add}
 use Rattle.model.specs.Fence.{inRoot}
 use Rattle.model.specs.Frame.{blocks, indexOf}
 use Rattle.edit.proofs.in_root.Statement.{statement}

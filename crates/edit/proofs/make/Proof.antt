@@ -9,7 +9,7 @@ use borrow.Author.Needs.{needs}
 use Rattle.sequence.proofs.CountAndFence.{all-fits, all-memory, all-count, all-true, all-fence, cut-memory, cut-count, cut-false, cut-fence}
 use Rattle.forms.proofs.BoardShape.{board-shape}
 use Rattle.sequence.proofs.Facts.{root-lent, bounds-in}
-use Rattle.shapes.proofs.Runs.{out-whole, out-cut}
+use Rattle.shapes.proofs.RunLaws.{out-whole, out-cut}
 use Rattle.sequence.specs.StoresMade.{fenceAfter}
 use Rattle.sequence.specs.Prepared.{wholeList}
 use Rattle.shapes.specs.Run.{allMade, limitReached, run}

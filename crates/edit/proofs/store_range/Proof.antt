@@ -9,7 +9,7 @@ use native.Mathlib.Omega.{arith}
 use borrow.Author.Tests.{not-true, not-false}
 use Rattle.sequence.proofs.Facts.{Facts, facts}
 use Rattle.sequence.proofs.LoopInvariant.{LoopInvariant, invariant-start, invariant-rooted, invariant-room, invariant-flag, invariant-new-page, invariant-ahead, invariant-cut, invariant-next, invariant-end, invariant-length}
-use Rattle.shapes.proofs.Runs.{out-whole, out-cut}
+use Rattle.shapes.proofs.RunLaws.{out-whole, out-cut}
 use Rattle.types.specs.Range.{Fair}
 use Rattle.edit.proofs.store_range.Statement.{statement}
 use Rattle.types.specs.Views.{requestOf, freeList}

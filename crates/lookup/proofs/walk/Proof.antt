@@ -1,4 +1,4 @@
--- `lookup::walk` meets its contract: a page below 2^(PAW-12) lies in one of at most 512 blocks.
+-- `lookup::walk` meets its contract: a page below 2^(PAW-12) lies in one of the blocks that there can be.
 use native.Mathlib.Omega.{arith}
 use borrow.Author.Tests.{lt-ltb, le-ltb}
 use borrow.Author.Needs.{needs}

@@ -20,14 +20,14 @@ use Rattle.scan.specs.FreeMarks.{listed}
 use Rattle.types.specs.Views.{requestOf, freeList}
 use Rattle.shapes.specs.Blocks.{wholePages}
 use Rattle.sequence.specs.Prepared.{Prepared}
-use Rattle.sequence.specs.StoresMade.{IsMade}
+use Rattle.sequence.specs.StoresMade.{StoresMadeIs}
 use Rattle.forms.proofs.BoardShape.{board-shape}
 use Rattle.sequence.proofs.Facts.{accepted-list}
 use Rattle.shapes.specs.Rooted.{Rooted}
 use Rattle.monitor.specs.Edits.{InOpenSlot}
 use Rattle.monitor.proofs.EditRefusals.{noRoom, edit-range, edit-lent, edit-no-room, edit-accepted, edit-done, made-is}
 use Rattle.monitor.proofs.FreePages.{listed-front, listed-short}
-use Rattle.slots.proofs.Sdids.{slot-low}
+use Rattle.shapes.proofs.SlotLaws.{slot-low}
 use Rattle.monitor.proofs.SlotRoots.{rooted-slot}
 use Rattle.monitor.proofs.edit_open.Statement.{statement}
 use Rattle.monitor.proofs.edit_open.Tie as tie
@@ -210,7 +210,7 @@ returns-4 c =
     let F = frameAt s in
     let q = request s in
     made-is F m (a .t3) q (a .limit) (storeList F m (a .t3) q) (k .make .last .1 .0) (k .make .result)
-    (subst₃ (λ (root sdid : ℕ) (list : List Store). IsMade F q root sdid list (a .limit) m (k .make .last .1 .0) (k .make .result))
+    (subst₃ (λ (root sdid : ℕ) (list : List Store). StoresMadeIs F q root sdid list (a .limit) m (k .make .last .1 .0) (k .make .result))
     (p .ppn .ensures .0) (d .sdid .ensures .0)
     (accepted-list F board-shape m q (p .ppn .result .0) (freeList (p .before .free-pages .result)) (asks x))
     (k .make .ensures))

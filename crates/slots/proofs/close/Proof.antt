@@ -11,7 +11,7 @@ use Rattle.shapes.specs.Slots.{notOpen}
 use Rattle.slots.specs.Outcomes.{outcomeOf}
 use Rattle.slots.specs.declared.Outcome.{Outcome}
 use Rattle.slots.proofs.Refusals.{close-not-admitted, close-slot, close-done}
-use Rattle.slots.proofs.Sdids.{slot-low}
+use Rattle.shapes.proofs.SlotLaws.{slot-low}
 use Rattle.slots.proofs.close.Statement.{statement}
 use Rattle.slots.proofs.close.Tie as tie
 use Rattle.table.specs.Board.{frameOf}

@@ -19,7 +19,7 @@ use Rattle.scan.specs.FreeMarks.{listed}
 use Rattle.scan.proofs.Laws.{free-lent, head-lent}
 use Rattle.shapes.specs.Slots.{notEmpty, badSdid}
 use Rattle.slots.proofs.Refusals.{open-slot, open-sdid, open-no-room, open-done}
-use Rattle.slots.proofs.Sdids.{slot-low, sdid-low}
+use Rattle.shapes.proofs.SlotLaws.{slot-low, sdid-low}
 use Rattle.slots.proofs.open_admitted.Statement.{statement}
 use Rattle.slots.proofs.open_admitted.Tie as tie
 use Rattle.table.specs.Board.{board, frameOf}

@@ -7,7 +7,7 @@ use denote.Ref.{now}
 use borrow.Author.Needs.{needs}
 use borrow.Author.Tests.{not-true, not-false}
 use Rattle.table.specs.Board.{frameOf}
-use Rattle.scan.specs.Scan.{answer, scanRun, entryStep, wordStep}
+use Rattle.scan.specs.Scan.{scanned, scanRun, entryStep, wordStep}
 use Rattle.scan.proofs.Loops.{run-start, run-on, run-stopped, run-ended}
 use Rattle.sound.proofs.entries.Statement.{statement}
 use Rattle.sound.proofs.entries.Tie as tie
@@ -21,7 +21,7 @@ abbrev μ-loop : tie.MeasureT-loop
 
 -- what the entry at hand says
 said : (c : tie.After-entry Inv-loop μ-loop) → let l = c .before .before .before .before .before in let a = l .before .before .args in
-    answer (c .entry .result) (c .entry .last .1 .1 .1 .0)
+    scanned (c .entry .result) (c .entry .last .1 .1 .1 .0)
     ≡ wordStep (frameOf (a .f) (now (a .words))) (now (a .words)) (a .at) (l .loop .used) (l .loop .b)
 said c = c .entry .ensures ∙ ap (entryStep _ _ _) (c .before .before .decode .ensures .0)
 

@@ -7,7 +7,7 @@ use Rattle.model.specs.Entry as entry
 use Rattle.model.specs.Sound.{cleanPage}
 use Rattle.laws.proofs.Every.{every-cong}
 use Rattle.laws.proofs.FrameNumbers.{word-at}
-use Rattle.scan.specs.Scan.{answer, linkStep}
+use Rattle.scan.specs.Scan.{scanned, linkStep}
 use Rattle.scan.proofs.Loops.{claimed-lent}
 use Rattle.sound.proofs.link.Statement.{statement}
 use Rattle.sound.proofs.link.Tie as tie
@@ -26,7 +26,7 @@ unfolding linkStep cleanPage
 returns c = let p = c .before in
     let b = p .before in
     rw (← b .before .claim .ensures, b .if1 .taken)
-    (ap (λ (r : Bool). answer r (b .before .claim .last .1 .1 .1 .0))
+    (ap (λ (r : Bool). scanned r (b .before .claim .last .1 .1 .1 .0))
     (c .clean .ensures ∙ every-cong _ _ (board .words) 0 (λ i l u. ap (entry.clean board) (word-at _ _ _ i _ (p .page-at .ensures .0)))))
 
 returns-2 : tie.Need-returns-2

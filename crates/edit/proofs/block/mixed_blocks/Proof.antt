@@ -12,7 +12,7 @@ use Rattle.sequence.specs.GibBlocks.{HasNewPage, Advanced}
 use Rattle.shapes.specs.Blocks.{storesOver}
 use Rattle.shapes.specs.Ahead.{Ahead}
 use Rattle.shapes.proofs.Order.{ahead-of}
-use Rattle.shapes.specs.Rows.{rowStores, piecesWord, PiecesAhead}
+use Rattle.shapes.specs.Rows.{rowStores, wordAsPieces, PiecesAhead}
 use Rattle.shapes.specs.Run.{run}
 use Rattle.shapes.proofs.Places.{place}
 use Rattle.types.specs.Range.{Fair}
@@ -30,7 +30,7 @@ nothing : (c : tie.Then1) → c .before .before .before .before .pieces-row .las
 nothing c =
     let a = c .before .before .before .before .before .before .before .before .before .before .args in
     let r = c .before .before .before .before .pieces-row in
-    row-none (piecesWord board) (a .words .now) (a .left) _ (r .result .count) (c .if1 .taken) (r .result .all) (r .result .left) (r .last .0) (r .ensures .2)
+    row-none (wordAsPieces board) (a .words .now) (a .left) _ (r .result .count) (c .if1 .taken) (r .result .all) (r .result .left) (r .last .0) (r .ensures .2)
 
 -- how many blocks lie outside the range, from b on
 abbrev outside : tie.After-page-at → ℕ
@@ -47,10 +47,10 @@ add-at c = search needs
 
 -- the row's stores, as far as no block has an L1 page, are those of its blocks
 abbrev NoTable : (p : tie.After-page-at) → ℕ → Type 0
-NoTable p n = let a = p .before .before .before .before .args in (k : ℕ) → p .page-at .result + a .b ≤ k → k < p .page-at .result + a .b + n → piecesWord board (getD (a .words .now) k 0) ≡ 0 → ⊥
+NoTable p n = let a = p .before .before .before .before .args in (k : ℕ) → p .page-at .result + a .b ≤ k → k < p .page-at .result + a .b + n → wordAsPieces board (getD (a .words .now) k 0) ≡ 0 → ⊥
 
 entries-here : (p : tie.After-page-at) (n : ℕ) → let a = p .before .before .before .before .args in
-    n ≤ outside p → NoTable p n → (x : ℕ) → a .b ≤ x → x < a .b + n → Entrywise (frameOf (a .edit .f) (a .words .now)) (a .words .now) (requestOf (a .edit .q)) (a .edit .root .0) (a .gib) (piecesWord board) x
+    n ≤ outside p → NoTable p n → (x : ℕ) → a .b ≤ x → x < a .b + n → Entrywise (frameOf (a .edit .f) (a .words .now)) (a .words .now) (requestOf (a .edit .q)) (a .edit .root .0) (a .gib) (wordAsPieces board) x
 entries-here p n few some x lo hi =
     let s = p .before .before .before .before in
     let a = s .args in
@@ -59,17 +59,17 @@ entries-here p n few some x lo hi =
     let k : p .page-at .result + x ≡ indexOf F (a .edit .root .0) x = place F (a .edit .root .0) x _ (p .page-at .ensures .0) in
     pieces-entry F m (requestOf (a .edit .q)) (a .edit .root .0) (a .gib) board-shape (s .pre .2 .small) (s .pre .6) (s .pre .0 .isLent) x (s .pre .0 .good x (omega (arith, s .pre .1, p .before .before .blocks-outside .ensures .0)))
     (λ y l u. p .before .before .blocks-outside .ensures .1 y (omega arith) (omega arith))
-    (subst (λ (y : ℕ). piecesWord board (getD m y 0) ≡ 0 → ⊥) k (some _ (omega arith) (omega arith)))
+    (subst (λ (y : ℕ). wordAsPieces board (getD m y 0) ≡ 0 → ⊥) k (some _ (omega arith) (omega arith)))
 
 row-here : (p : tie.After-page-at) (n : ℕ) → let a = p .before .before .before .before .args in n ≤ outside p → NoTable p n
-    → rowStores (a .words .now) (piecesWord board) n (p .page-at .result + a .b)
+    → rowStores (a .words .now) (wordAsPieces board) n (p .page-at .result + a .b)
     ≡ storesOver (frameOf (a .edit .f) (a .words .now)) (a .words .now) (requestOf (a .edit .q)) (a .edit .root .0) (a .gib) n (a .b) (drop (a .next) (freeList (a .free)))
 row-here p n few some =
     let a = p .before .before .before .before .args in
     let m = a .words .now in
     let F = frameOf (a .edit .f) m in
-    ap (rowStores m (piecesWord board) n) (place F (a .edit .root .0) (a .b) _ (p .page-at .ensures .0))
-    ∙ sym (row-stores F m (requestOf (a .edit .q)) (a .edit .root .0) (a .gib) (piecesWord board) n (a .b) (drop (a .next) (freeList (a .free))) (entries-here p n few some))
+    ap (rowStores m (wordAsPieces board) n) (place F (a .edit .root .0) (a .b) _ (p .page-at .ensures .0))
+    ∙ sym (row-stores F m (requestOf (a .edit .q)) (a .edit .root .0) (a .gib) (wordAsPieces board) n (a .b) (drop (a .next) (freeList (a .free))) (entries-here p n few some))
 
 pieces-row-requires : tie.Need-pieces-row-requires
 pieces-row-requires c κs =
@@ -117,7 +117,7 @@ returns-2 c =
     let p = c .before .before .before .before .before .before .before in
     record {
       made = r .ensures .2 ∙ ap (λ (ss : List Store). run (a .left) ss m) (row-here p n (r .ensures .0) (r .ensures .1));
-      pages = omega (arith, row-pages F m (requestOf (a .edit .q)) (a .edit .root .0) (a .gib) (piecesWord board) n (a .b) (entries-here p n (r .ensures .0) (r .ensures .1)));
+      pages = omega (arith, row-pages F m (requestOf (a .edit .q)) (a .edit .root .0) (a .gib) (wordAsPieces board) n (a .b) (entries-here p n (r .ensures .0) (r .ensures .1)));
       some = omega (arith, c .before .if1 .left);
       within = omega (arith, p .before .before .blocks-outside .ensures .0, r .ensures .0);
     }

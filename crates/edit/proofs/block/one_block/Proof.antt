@@ -11,7 +11,7 @@ use Rattle.model.specs.Frame.{lent}
 use borrow.Author.Needs.{needs}
 use Rattle.forms.proofs.BoardShape.{board-shape}
 use Rattle.shapes.proofs.BlockLaws.{form-encodes, over-one, pages-one}
-use Rattle.shapes.specs.Blocks.{Encodes, formAt, storesAt, storesOver}
+use Rattle.shapes.specs.Blocks.{Encodes, formInGib, storesInGib, storesOver}
 use Rattle.shapes.proofs.Order.{ahead-of}
 use Rattle.shapes.specs.Run.{run}
 use Rattle.model.specs.Entry.{Entry}
@@ -28,7 +28,7 @@ good-here c =
     subst (Good (frameOf (s .args .edit .f) (s .args .words .now)) (s .args .words .now)) (sym (c .entry-at .ensures .0)) (s .pre .0 .good (s .args .b) (s .pre .1))
 
 form-here : (c : tie.After-block-form) → let a = c .before .before .before .before .before .args in
-    formOf (c .block-form .result) ≡ formAt (frameOf (a .edit .f) (a .words .now)) (a .words .now) (requestOf (a .edit .q)) (a .edit .root .0) (a .gib) (a .b)
+    formOf (c .block-form .result) ≡ formInGib (frameOf (a .edit .f) (a .words .now)) (a .words .now) (requestOf (a .edit .q)) (a .edit .root .0) (a .gib) (a .b)
 form-here c =
     let a = c .before .before .before .before .before .args in
     c .block-form .ensures
@@ -44,7 +44,7 @@ block-here p =
     let a = ea .before .before .before .args in
     let F = frameOf (a .edit .f) (a .words .now) in
     ap₂ (λ (x : Form) (e : Entry). blockStores F (a .words .now) (requestOf (a .edit .q)) (a .edit .root .0) x e (a .b) (p .page-from .result .0)) (form-here bf) (ea .entry-at .ensures .0)
-    ∙ ap (storesAt F (a .words .now) (requestOf (a .edit .q)) (a .edit .root .0) (a .gib) (a .b)) (p .page-from .ensures)
+    ∙ ap (storesInGib F (a .words .now) (requestOf (a .edit .q)) (a .edit .root .0) (a .gib) (a .b)) (p .page-from .ensures)
     ∙ sym (over-one F (a .words .now) (requestOf (a .edit .q)) (a .edit .root .0) (a .gib) (a .b) (drop (a .next) (freeList (a .free))))
 
 entry-at-requires : tie.Need-entry-at-requires

@@ -10,7 +10,7 @@ use Rattle.shapes.proofs.NewPage.{run-same}
 use Rattle.shapes.proofs.PageLaws.{run-parts}
 use Rattle.shapes.proofs.Order.{ahead-of, Remaining, remaining-start, remaining-ahead, remaining-next, remaining-cut}
 use Rattle.shapes.proofs.Places.{lent-same, good-same}
-use Rattle.shapes.proofs.Runs.{progress-all, progress-cut}
+use Rattle.shapes.proofs.RunLaws.{progress-all, progress-cut}
 use Rattle.shapes.specs.Run.{out, run}
 use Rattle.types.specs.declared.Budget.{Budget}
 use Rattle.model.specs.Stores.{Store, newTable}

@@ -10,7 +10,7 @@ use Rattle.table.specs.Board.{board, frameOf, frameOver}
 use Rattle.shapes.proofs.Places.{lent-same}
 use Rattle.shapes.specs.Ahead.{Ahead}
 use Rattle.shapes.proofs.Order.{ahead-of, Remaining, remaining-start, remaining-ahead, remaining-next, remaining-cut}
-use Rattle.shapes.proofs.Runs.{progress-all, progress-cut}
+use Rattle.shapes.proofs.RunLaws.{progress-all, progress-cut}
 use Rattle.shapes.specs.Run.{out, run}
 use Rattle.types.specs.declared.Budget.{Budget}
 use Rattle.types.specs.declared.Progress.{Progress}

@@ -5,7 +5,7 @@ use Prim.Native.Nat.{_-_}
 use native.Mathlib.Omega.{arith}
 use borrow.Author.Needs.{needs}
 use Rattle.shapes.proofs.OwnPage.{Same, same-start, same-good, same-ahead, same-next, same-cut, same-end}
-use Rattle.shapes.proofs.Runs.{progress-all, progress-cut}
+use Rattle.shapes.proofs.RunLaws.{progress-all, progress-cut}
 use Rattle.types.specs.Views.{requestOf}
 use Rattle.table.specs.Board.{frameOver}
 use Rattle.forms.proofs.BoardShape.{board-shape}

@@ -1,7 +1,7 @@
 -- `entries::put::put` meets its contract: no store is left, or the next one is made.
 use mathlib.Core.Path.{sym}
 use borrow.Author.Needs.{needs}
-use Rattle.shapes.proofs.Runs.{run-cut}
+use Rattle.shapes.proofs.RunLaws.{run-cut}
 use Rattle.entries.proofs.put.put.Statement.{statement}
 use Rattle.entries.proofs.put.put.Tie as tie
 

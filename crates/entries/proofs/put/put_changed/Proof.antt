@@ -9,7 +9,7 @@ use Rattle.model.specs.Numbers.{if_then_else_}
 use Rattle.model.specs.Stores.{Store}
 use Rattle.table.specs.Stored.{storeOf}
 use Rattle.shapes.specs.Run.{run}
-use Rattle.shapes.proofs.Runs.{run-none}
+use Rattle.shapes.proofs.RunLaws.{run-none}
 use Rattle.entries.proofs.put.put_changed.Statement.{statement}
 use Rattle.entries.proofs.put.put_changed.Tie as tie
 

@@ -3,7 +3,7 @@ use mathlib.Core.Path.{sym, ap, _∙_}
 use Prim.Native.Nat.{_-_}
 use native.Mathlib.Omega.{arith}
 use Rattle.shapes.proofs.Order.{next-made}
-use Rattle.shapes.proofs.Runs.{run-one}
+use Rattle.shapes.proofs.RunLaws.{run-one}
 use Rattle.shapes.specs.Run.{allMade}
 use Rattle.table.specs.Stored.{storeOf}
 use borrow.Author.Needs.{needs}

@@ -4,7 +4,7 @@ use mathlib.Core.Path.{_≡_, refl, ap, _∙_}
 use Prim.Native.Nat.{ℕ, _-_, _≤_}
 use native.Mathlib.Omega.{arith}
 use Rattle.shapes.proofs.RowLaws.{InRow, row-start, row-ahead, row-next, row-cut}
-use Rattle.shapes.proofs.Runs.{progress-all, progress-cut}
+use Rattle.shapes.proofs.RunLaws.{progress-all, progress-cut}
 use Rattle.shapes.specs.Run.{run}
 use Rattle.shapes.specs.Rows.{rowStores}
 use Rattle.entries.proofs.rows.flat_row.Statement.{statement}

@@ -5,16 +5,16 @@ use Prim.Native.Nat.{ℕ, _+_, _-_, _≤_, _<_}
 use native.Mathlib.Omega.{arith}
 use lib.ListN.{getD}
 use Rattle.shapes.proofs.RowLaws.{InRow, row-start, row-ahead, row-next, row-said, one-more}
-use Rattle.shapes.proofs.Runs.{progress-all, progress-cut}
+use Rattle.shapes.proofs.RunLaws.{progress-all, progress-cut}
 use Rattle.shapes.specs.Run.{run}
-use Rattle.shapes.specs.Rows.{rowStores, piecesWord}
+use Rattle.shapes.specs.Rows.{rowStores, wordAsPieces}
 use Rattle.table.specs.Board.{board}
 use Rattle.entries.proofs.rows.pieces_row.Statement.{statement}
 use Rattle.entries.proofs.rows.pieces_row.Tie as tie
 
 abbrev Inv-loop : tie.InvT-loop
 Inv-loop words₀ at n more₀ i₀ words more i =
-    (i ≤ n) × InRow (piecesWord board) words₀ more₀ at words more i × ((k : ℕ) → at ≤ k → k < at + i → piecesWord board (getD words₀ k 0) ≡ 0 → ⊥)
+    (i ≤ n) × InRow (wordAsPieces board) words₀ more₀ at words more i × ((k : ℕ) → at ≤ k → k < at + i → wordAsPieces board (getD words₀ k 0) ≡ 0 → ⊥)
 
 abbrev μ-loop : tie.MeasureT-loop
 μ-loop words₀ at n more₀ i₀ words more i = n - i
@@ -22,17 +22,17 @@ abbrev μ-loop : tie.MeasureT-loop
 loop-holds : tie.Need-loop-holds Inv-loop μ-loop
 loop-holds c = (omega arith, row-start, λ k lo hi. absurd (omega arith))
 
-add-pieces-word : tie.Need-add-pieces-word Inv-loop μ-loop
-add-pieces-word c = let l = c .before in omega (arith, l .before .before .pre .0, l .loop .inv .1 .size)
+add-word-as-pieces : tie.Need-add-word-as-pieces Inv-loop μ-loop
+add-word-as-pieces c = let l = c .before in omega (arith, l .before .before .pre .0, l .loop .inv .1 .size)
 
-mul-pieces-word : tie.Need-mul-pieces-word Inv-loop μ-loop
-mul-pieces-word c = let l = c .before in omega (arith, l .before .before .pre .0, l .loop .inv .1 .size)
+mul-word-as-pieces : tie.Need-mul-word-as-pieces Inv-loop μ-loop
+mul-word-as-pieces c = let l = c .before in omega (arith, l .before .before .pre .0, l .loop .inv .1 .size)
 
-slice-read-pieces-word : tie.Need-slice-read-pieces-word Inv-loop μ-loop
-slice-read-pieces-word c = let l = c .before .before in omega (arith, l .before .before .pre .0, l .loop .inv .1 .size)
+slice-read-word-as-pieces : tie.Need-slice-read-word-as-pieces Inv-loop μ-loop
+slice-read-word-as-pieces c = let l = c .before .before in omega (arith, l .before .before .pre .0, l .loop .inv .1 .size)
 
-pieces-word-requires : tie.Need-pieces-word-requires Inv-loop μ-loop
-pieces-word-requires c κs = tt
+word-as-pieces-requires : tie.Need-word-as-pieces-requires Inv-loop μ-loop
+word-as-pieces-requires c κs = tt
 
 same-length : tie.Need-same-length Inv-loop μ-loop
 same-length c = c .before .before .before .before .loop .inv .1 .size
@@ -47,12 +47,12 @@ put-changed-requires : tie.Need-put-changed-requires Inv-loop μ-loop
 put-changed-requires c κs =
     let l = c .before .before .before .before .before in
     let s = l .before .before in
-    let w = c .before .before .pieces-word in
+    let w = c .before .before .word-as-pieces in
     let less = c .before .before .before .before .loop-test .taken in (
       omega (arith, s .pre .0, l .loop .inv .1 .size),
       row-ahead (l .loop .inv .1) (w .ensures) (l .loop .i + 1) (omega arith)
           (s .pre .1 (l .loop .i + 1) (omega (arith, less))
-          (one-more (λ k. piecesWord board (getD (s .args .words .now) k 0) ≡ 0 → ⊥) _ _ (l .loop .inv .2) (λ z. c .before .if1 .left (w .ensures ∙ ap (piecesWord board) (l .loop .inv .1 .ahead _ (omega arith)) ∙ z)))),
+          (one-more (λ k. wordAsPieces board (getD (s .args .words .now) k 0) ≡ 0 → ⊥) _ _ (l .loop .inv .2) (λ z. c .before .if1 .left (w .ensures ∙ ap (wordAsPieces board) (l .loop .inv .1 .ahead _ (omega arith)) ∙ z)))),
     )
 
 add-t17 : tie.Need-add-t17 Inv-loop μ-loop
@@ -65,9 +65,9 @@ returns-2 : tie.Need-returns-2 Inv-loop μ-loop
 returns-2 c =
     let l = c .before .before .before .before .before .before .before .before .before .before .before in
     let r = c .before .before .before .before .before .put-changed in
-    let w = c .before .before .before .before .before .before .before .before .pieces-word in (
+    let w = c .before .before .before .before .before .before .before .before .word-as-pieces in (
       omega (arith, c .before .before .before .before .before .before .before .before .before .before .loop-test .taken),
-      one-more (λ k. piecesWord board (getD (l .before .before .args .words .now) k 0) ≡ 0 → ⊥) _ _ (l .loop .inv .2) (λ z. c .before .before .before .before .before .before .before .if1 .left (w .ensures ∙ ap (piecesWord board) (l .loop .inv .1 .ahead _ (omega arith)) ∙ z)),
+      one-more (λ k. wordAsPieces board (getD (l .before .before .args .words .now) k 0) ≡ 0 → ⊥) _ _ (l .loop .inv .2) (λ z. c .before .before .before .before .before .before .before .if1 .left (w .ensures ∙ ap (wordAsPieces board) (l .loop .inv .1 .ahead _ (omega arith)) ∙ z)),
       sym (progress-cut (r .result) (r .last .0) (c .if2 .taken))
           ∙ row-said (l .loop .inv .1) (w .ensures) (r .ensures),
     )
@@ -82,11 +82,11 @@ loop-again : tie.Need-loop-again Inv-loop μ-loop
 loop-again c =
     let l = c .before .before .before .before .before .before .before .before .before .before .before in
     let r = c .before .before .before .before .before .put-changed in
-    let w = c .before .before .before .before .before .before .before .before .pieces-word in (
+    let w = c .before .before .before .before .before .before .before .before .word-as-pieces in (
       omega (arith, c .before .before .before .before .before .before .before .before .before .before .loop-test .taken),
       row-next (l .loop .inv .1) (w .ensures) (r .ensures)
           (progress-all (r .result) (r .last .0) (c .if2 .left)),
-      one-more (λ k. piecesWord board (getD (l .before .before .args .words .now) k 0) ≡ 0 → ⊥) _ _ (l .loop .inv .2) (λ z. c .before .before .before .before .before .before .before .if1 .left (w .ensures ∙ ap (piecesWord board) (l .loop .inv .1 .ahead _ (omega arith)) ∙ z)),
+      one-more (λ k. wordAsPieces board (getD (l .before .before .args .words .now) k 0) ≡ 0 → ⊥) _ _ (l .loop .inv .2) (λ z. c .before .before .before .before .before .before .before .if1 .left (w .ensures ∙ ap (wordAsPieces board) (l .loop .inv .1 .ahead _ (omega arith)) ∙ z)),
     )
 
 same-length-3 : tie.Need-same-length-3 Inv-loop μ-loop
@@ -99,7 +99,7 @@ returns-3 c =
     let z : l .loop .i ≡ s .args .n = omega (arith, l .loop .inv .0, c .loop-test .left) in (
       omega arith,
       λ k lo hi. l .loop .inv .2 k lo (omega (arith, z)),
-      l .loop .inv .1 .done ∙ ap (λ (k : ℕ). run (s .args .left) (rowStores (s .args .words .now) (piecesWord board) k (s .args .at)) (s .args .words .now)) z,
+      l .loop .inv .1 .done ∙ ap (λ (k : ℕ). run (s .args .left) (rowStores (s .args .words .now) (wordAsPieces board) k (s .args .at)) (s .args .words .now)) z,
     )
 
 pub pieces-row-spec : {M : Type 1} → statement M
@@ -109,10 +109,10 @@ pieces-row-spec =
     Inv-loop
     μ-loop
     loop-holds
-    add-pieces-word
-    mul-pieces-word
-    slice-read-pieces-word
-    pieces-word-requires
+    add-word-as-pieces
+    mul-word-as-pieces
+    slice-read-word-as-pieces
+    word-as-pieces-requires
     same-length
     returns
     add-put-changed

@@ -5,10 +5,11 @@ use native.Mathlib.Omega.{arith}
 use lib.ListN.{getD}
 use lib.Dec.{eqb}
 use borrow.Author.Needs.{needs}
+use Rattle.laws.proofs.FrameNumbers.{index-add}
 use Rattle.table.specs.Board.{PIECE-PAGES, PIECE-WORDS, frameOf}
 use Rattle.forms.proofs.BoardShape.{board-shape}
 use Rattle.shapes.proofs.EntryLaws.{run-outside}
-use Rattle.shapes.proofs.Fields.{eqb-swap, index-add}
+use Rattle.shapes.proofs.Fields.{eqb-swap}
 use Rattle.shapes.proofs.FormLaws.{piece-words}
 use Rattle.model.specs.Entry.{Entry}
 use Rattle.model.specs.Forms.{allAre, permOf}

@@ -7,7 +7,7 @@ use borrow.Author.Needs.{needs}
 use Rattle.model.specs.Numbers.{member}
 use Rattle.table.specs.Board.{board}
 use Rattle.shapes.specs.Slots.{openSdids}
-use Rattle.slots.proofs.Sdids.{held-here, held-later, held-by-none}
+use Rattle.shapes.proofs.SlotLaws.{held-here, held-later, held-by-none}
 use Rattle.slots.proofs.named.held.Statement.{statement}
 use Rattle.slots.proofs.named.held.Tie as tie
 
@@ -32,7 +32,7 @@ holds-requires c κs = search needs
 returns : tie.Need-returns Inv-loop μ-loop
 returns c = let l = c .before .before .before in
     let h : l .loop .i < length (l .before .args .t1) = omega arith in
-    sym (l .loop .inv .2 ∙ held-here _ _ _ h (sym (c .before .holds .ensures) ∙ c .if1 .taken))
+    sym (l .loop .inv .2 ∙ held-here board _ _ _ h (sym (c .before .holds .ensures) ∙ c .if1 .taken))
 
 add-i : tie.Need-add-i Inv-loop μ-loop
 add-i c = omega arith
@@ -43,12 +43,12 @@ loop-less c = omega arith
 loop-again : tie.Need-loop-again Inv-loop μ-loop
 loop-again c = let l = c .before .before .before in
     let h : l .loop .i < length (l .before .args .t1) = omega arith in
-    (omega arith, omega arith, l .loop .inv .2 ∙ held-later _ _ _ h (sym (c .before .holds .ensures) ∙ c .if1 .left))
+    (omega arith, omega arith, l .loop .inv .2 ∙ held-later board _ _ _ h (sym (c .before .holds .ensures) ∙ c .if1 .left))
 
 returns-2 : tie.Need-returns-2 Inv-loop μ-loop
 returns-2 c = let l = c .before in
     let h : length (l .before .args .t1) ≤ l .loop .i = omega arith in
-    sym (l .loop .inv .2 ∙ held-by-none _ _ _ h)
+    sym (l .loop .inv .2 ∙ held-by-none board _ _ _ h)
 
 pub held-spec : {M : Type 1} → statement M
 held-spec =

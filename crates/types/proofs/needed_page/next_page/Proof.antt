@@ -1,8 +1,8 @@
--- `types::blocks::next_page` meets its contract: by what `needs_page` says.
+-- `types::needed_page::next_page` meets its contract: by what `needs_page` says.
 use mathlib.Core.Path.{sym, _∙_}
 use borrow.Author.Needs.{needs}
-use Rattle.types.proofs.blocks.next_page.Statement.{statement}
-use Rattle.types.proofs.blocks.next_page.Tie as tie
+use Rattle.types.proofs.needed_page.next_page.Statement.{statement}
+use Rattle.types.proofs.needed_page.next_page.Tie as tie
 
 needs-page-requires : tie.Need-needs-page-requires
 needs-page-requires c κs = search needs

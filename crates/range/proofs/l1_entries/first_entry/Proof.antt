@@ -1,9 +1,9 @@
--- `range::pages::first_entry` meets its contract: an entry below the one that holds the start ends before the range.
+-- `range::l1_entries::first_entry` meets its contract: an entry below the one that holds the start ends before the range.
 use native.Mathlib.Omega.{arith}
 use Rattle.laws.proofs.InRange.{below-false}
 use borrow.Author.Needs.{needs}
-use Rattle.range.proofs.pages.first_entry.Statement.{statement}
-use Rattle.range.proofs.pages.first_entry.Tie as tie
+use Rattle.range.proofs.l1_entries.first_entry.Statement.{statement}
+use Rattle.range.proofs.l1_entries.first_entry.Tie as tie
 
 mul-base : tie.Need-mul-base
 mul-base c = search needs

@@ -1,9 +1,9 @@
--- `table::page::piece_of` meets its contract: the definition's own remainder and quotient, in the board's numbers.
+-- `table::place::piece_of` meets its contract: the definition's own remainder and quotient, in the board's numbers.
 use mathlib.Core.Path.{refl}
 use native.Mathlib.Omega.{arith}
 use Rattle.model.specs.Walk.{pieceOf}
-use Rattle.table.proofs.page.piece_of.Statement.{statement}
-use Rattle.table.proofs.page.piece_of.Tie as tie
+use Rattle.table.proofs.place.piece_of.Statement.{statement}
+use Rattle.table.proofs.place.piece_of.Tie as tie
 
 returns : tie.Need-returns
 unfolding pieceOf

@@ -1,8 +1,8 @@
--- `types::blocks::needs_page` meets its contract: case by case of form and entry, as the definition goes.
+-- `types::needed_page::needs_page` meets its contract: case by case of form and entry, as the definition goes.
 use borrow.Author.Needs.{needs}
 use Rattle.model.specs.Stores.{needsPage}
-use Rattle.types.proofs.blocks.needs_page.Statement.{statement}
-use Rattle.types.proofs.blocks.needs_page.Tie as tie
+use Rattle.types.proofs.needed_page.needs_page.Statement.{statement}
+use Rattle.types.proofs.needed_page.needs_page.Tie as tie
 
 enum-told : tie.Need-enum-told
 enum-told c = search needs

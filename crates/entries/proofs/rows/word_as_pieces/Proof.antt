@@ -1,14 +1,14 @@
--- `entries::rows::pieces_word` meets its contract: by what the word decodes to, whose permission or INFO is small enough that the sum fits a word.
+-- `entries::rows::word_as_pieces` meets its contract: by what the word decodes to, whose permission or INFO is small enough that the sum fits a word.
 use mathlib.Core.Path.{sym, ap, _∙_, subst}
 use Prim.Native.Nat.{_<_}
 use native.Mathlib.Omega.{arith}
 use Rattle.table.specs.Board.{board, PIECE-INFO}
-use Rattle.shapes.specs.Rows.{piecesOf}
+use Rattle.shapes.specs.Rows.{entryAsPieces}
 use Rattle.table.specs.Bounds.{Small}
 use Rattle.types.specs.Views.{entryOf}
 use borrow.Author.Needs.{needs}
-use Rattle.entries.proofs.rows.pieces_word.Statement.{statement}
-use Rattle.entries.proofs.rows.pieces_word.Tie as tie
+use Rattle.entries.proofs.rows.word_as_pieces.Statement.{statement}
+use Rattle.entries.proofs.rows.word_as_pieces.Tie as tie
 
 flat-small : (c : tie.After-p) → c .p .given .0 .0 < 4
 flat-small c = subst Small (ap entryOf (c .p .given .1)) (c .before .before .decode .ensures .1)
@@ -47,19 +47,19 @@ enum-told-2 : tie.Need-enum-told-2
 enum-told-2 c = search needs
 
 returns : tie.Need-returns
-returns c = c .narrow .ensures ∙ ap (piecesOf board) (sym (ap entryOf (c .before .before .p .given .1)) ∙ c .before .before .before .before .decode .ensures .0)
+returns c = c .narrow .ensures ∙ ap (entryAsPieces board) (sym (ap entryOf (c .before .before .p .given .1)) ∙ c .before .before .before .before .decode .ensures .0)
 
 returns-2 : tie.Need-returns-2
-returns-2 c = c .narrow2 .ensures ∙ ap (piecesOf board) (sym (ap entryOf (c .before .before .info .given .1)) ∙ c .before .before .before .before .decode .ensures .0)
+returns-2 c = c .narrow2 .ensures ∙ ap (entryAsPieces board) (sym (ap entryOf (c .before .before .info .given .1)) ∙ c .before .before .before .before .decode .ensures .0)
 
 returns-3 : tie.Need-returns-3
-returns-3 c = ap (piecesOf board) (sym (ap entryOf (c .enum-told .given .1)) ∙ c .before .before .decode .ensures .0)
+returns-3 c = ap (entryAsPieces board) (sym (ap entryOf (c .enum-told .given .1)) ∙ c .before .before .decode .ensures .0)
 
 returns-4 : tie.Need-returns-4
-returns-4 c = ap (piecesOf board) (sym (ap entryOf (c .enum-told2 .given .1)) ∙ c .before .before .decode .ensures .0)
+returns-4 c = ap (entryAsPieces board) (sym (ap entryOf (c .enum-told2 .given .1)) ∙ c .before .before .decode .ensures .0)
 
-pub pieces-word-spec : {M : Type 1} → statement M
-pieces-word-spec =
+pub word-as-pieces-spec : {M : Type 1} → statement M
+word-as-pieces-spec =
     tie.close
     (tie.spec
     decode-requires

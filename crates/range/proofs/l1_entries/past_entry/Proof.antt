@@ -1,9 +1,9 @@
--- `range::pages::past_entry` meets its contract: an entry that begins at the end or after it has no page of the range.
+-- `range::l1_entries::past_entry` meets its contract: an entry that begins at the end or after it has no page of the range.
 use native.Mathlib.Omega.{arith}
 use Rattle.laws.proofs.InRange.{above-false}
 use borrow.Author.Needs.{needs}
-use Rattle.range.proofs.pages.past_entry.Statement.{statement}
-use Rattle.range.proofs.pages.past_entry.Tie as tie
+use Rattle.range.proofs.l1_entries.past_entry.Statement.{statement}
+use Rattle.range.proofs.l1_entries.past_entry.Tie as tie
 
 add-high : tie.Need-add-high
 add-high c = search needs

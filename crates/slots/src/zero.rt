@@ -8,7 +8,7 @@ ghost use lib.ListN.{length};
 ghost use Rattle.slots.specs.ZeroPage.{zeroed};
 ghost use Rattle.table.specs.Board.{PAGE-WORDS};
 
-// The 512 words from at, one store each.
+// The words of the page that starts at word at, one store each.
 pub fn zero_page(words: &mut [Word], at: usize)
     requires { ⌜ at + PAGE-WORDS ≤ length (now words) ⌝ }
     ensures { λ r. ⌜ now (words .exit) ≡ zeroed (now (words .entry)) at ⌝ }

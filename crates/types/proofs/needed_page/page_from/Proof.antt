@@ -1,4 +1,4 @@
--- `types::blocks::page_from` meets its contract: the first two pages, as many as there are.
+-- `types::needed_page::page_from` meets its contract: the first two pages, as many as there are.
 use mathlib.Core.Path.{sym, ap, _∙_}
 use mathlib.Core.Logic.{_≢_}
 use mathlib.Core.List.{headD}
@@ -7,8 +7,8 @@ use native.Mathlib.Omega.{arith}
 use lib.ListN.{drop}
 use Rattle.types.specs.Views.{freeList}
 use Rattle.laws.proofs.Fronts.{page-none, page-past, page-first, page-second}
-use Rattle.types.proofs.blocks.page_from.Statement.{statement}
-use Rattle.types.proofs.blocks.page_from.Tie as tie
+use Rattle.types.proofs.needed_page.page_from.Statement.{statement}
+use Rattle.types.proofs.needed_page.page_from.Tie as tie
 
 returns : tie.Need-returns
 returns c =

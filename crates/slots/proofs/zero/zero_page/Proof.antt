@@ -1,13 +1,13 @@
--- `slots::page::zero_page` meets its contract: the invariant: zeroing the words that are left gives the zeroed page.
+-- `slots::zero::zero_page` meets its contract: the invariant: zeroing the words that are left gives the zeroed page.
 use mathlib.Core.Path.{_≡_, refl, sym, ap, _∙_}
 use mathlib.Core.List.{List}
 use Prim.Native.Nat.{ℕ, _+_, _-_, _≤_, _<_}
 use native.Mathlib.Omega.{arith}
 use lib.ListN.{length, length-set}
 use Rattle.slots.specs.ZeroPage.{zeroed}
-use Rattle.slots.proofs.Zeroes.{left, left-all, left-next, left-none}
-use Rattle.slots.proofs.page.zero_page.Statement.{statement}
-use Rattle.slots.proofs.page.zero_page.Tie as tie
+use Rattle.slots.proofs.ZeroLoop.{left, left-all, left-next, left-none}
+use Rattle.slots.proofs.zero.zero_page.Statement.{statement}
+use Rattle.slots.proofs.zero.zero_page.Tie as tie
 use Rattle.table.specs.Board.{PAGE-WORDS}
 
 abbrev Inv-loop : tie.InvT-loop
