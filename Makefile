@@ -24,6 +24,7 @@ test:
 	@tools/need cc:gcc cargo python3 perl
 	@tools/derive --check
 	@tests/order/run
+	@tests/definitions/run --fit
 	@said=$$(mktemp); RT_JOBS=$$((2 * $$(nproc))) rt ci 2>&1 | tee "$$said" || { rm -f "$$said"; exit 1; }; mv "$$said" target/verdict
 	@tests/versions/run >target/versions && tail -n 1 target/versions
 	@tests/definitions/run

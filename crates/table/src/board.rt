@@ -11,7 +11,7 @@ pub const PAGE_WORDS: usize = 512;
 
 pub const FIELDS: u64 = 16;
 
-// "16 two-bit permissions, one per 2 MiB", and the TYPE that has them.
+// "16 two-bit permissions, one per 2 MiB".
 pub const PIECES: u64 = 16;
 
 pub const PIECE_PAGES: u64 = 512;
@@ -49,7 +49,7 @@ pub const MODE_UNIT: u64 = 0x1000_0000_0000_0000;
 
 pub const WPRI_VALUES: u64 = 1024;
 
-// "PAW (30 to 34), lent table memory of 2 to 256 whole pages."
+// "PAW (30 to 34), lent table memory of 2 to 256 whole pages".
 pub const MAX_PAW: u64 = 34;
 
 pub const MAX_PAGES: u64 = 256;

@@ -33,7 +33,6 @@
 --   Counts       how many stores
 --   PagesTaken   at most two new pages, and that the stores depend on those alone
 --   Demands      demands 2 and 3
--- For the code
 -- Opening and closing
 --   OneSlot      one slot changes
 --   Zeroed       a page that is zeroed
