@@ -26,7 +26,7 @@ ghost use Prim.Native.Nat.{_+_, _*_, _/_, _%_, _≤_, _<_};
 ghost use Rattle.types.specs.Range.{Fair};
 ghost use Rattle.table.specs.Board.{PIECE-BYTES, frameOf};
 ghost use Rattle.shapes.specs.Blocks.{GibIs, Ranged, wholePages};
-ghost use Rattle.model.specs.Forms.{formIn, gibFirst, gibIsOne};
+ghost use Rattle.model.specs.Forms.{formIn, gibIsOne};
 ghost use Rattle.model.specs.Frame.{blocks};
 ghost use Rattle.model.specs.Stores.{needsPage};
 ghost use Rattle.model.specs.Walk.{entryAt};
@@ -50,8 +50,7 @@ fn blocks_are(edit: Edit, words: &[Word], g: u64, p: u64) -> bool
 // A GiB wholly in the range is of one permission without a read.
 fn gib_of(edit: Edit, words: &[Word], g: u64) -> Gib
     requires { ⌜ Rooted (frameOf (edit .f) (now words)) (now words) (edit .root .0) × (g * gibBlocks + gibBlocks ≤ blocks (frameOf (edit .f) (now words))) × Fair (edit .q) ⌝ }
-    ensures { λ r. ⌜ (r .p ≡ gibFirst (frameOf (edit .f) (now (words .entry))) (now (words .entry)) (requestOf (edit .q)) (edit .root .0) g)
-        × (r .one ≡ gibIsOne (frameOf (edit .f) (now (words .entry))) (now (words .entry)) (requestOf (edit .q)) (edit .root .0) g (r .p)) × (r .p < 4) ⌝ }
+    ensures { λ r. ⌜ GibIs (frameOf (edit .f) (now (words .entry))) (now (words .entry)) (requestOf (edit .q)) (edit .root .0) g r ⌝ }
 {
     match lies(edit.q, g * GIB_PAGES, GIB_PAGES) {
         Place::Inside => Gib {
@@ -66,8 +65,7 @@ fn gib_of(edit: Edit, words: &[Word], g: u64) -> Gib
 // A GiB whose first page has another permission than the asked one is mixed, if the range has a page of it.
 fn read_gib(edit: Edit, words: &[Word], g: u64) -> Gib
     requires { ⌜ Rooted (frameOf (edit .f) (now words)) (now words) (edit .root .0) × (g * gibBlocks + gibBlocks ≤ blocks (frameOf (edit .f) (now words))) × Fair (edit .q) ⌝ }
-    ensures { λ r. ⌜ (r .p ≡ gibFirst (frameOf (edit .f) (now (words .entry))) (now (words .entry)) (requestOf (edit .q)) (edit .root .0) g)
-        × (r .one ≡ gibIsOne (frameOf (edit .f) (now (words .entry))) (now (words .entry)) (requestOf (edit .q)) (edit .root .0) g (r .p)) × (r .p < 4) ⌝ }
+    ensures { λ r. ⌜ GibIs (frameOf (edit .f) (now (words .entry))) (now (words .entry)) (requestOf (edit .q)) (edit .root .0) g r ⌝ }
 {
     let b = g * GIB_BLOCKS;
     let p = piece_first(edit, words, entry_at(edit.f, words, edit.root, b), b, 0);
