@@ -9,12 +9,12 @@ use mathlib.Core.Path.{_≡_, refl, sym, ap, ap₂, _∙_, subst}
 use mathlib.Core.Logic.{inl, inr}
 use mathlib.Core.Bool.{Bool, true, false, false≢true}
 use mathlib.Core.List.{List, [], _∷_, _++_}
-use Prim.Native.Nat.{ℕ, zero, suc, _<_, _≤_}
+use Prim.Native.Nat.{ℕ, _<_, _≤_}
 use native.Mathlib.Omega.{arith}
 use borrow.Author.Tests.{eqb-true, eqb-false, leb-true}
 use Rattle.laws.proofs.Choices.{split}
 use lib.Dec.{eqb, leb}
-use lib.ListN.{getD, length, take}
+use lib.ListN.{getD, length, take, length-take}
 use lib.Seq.{take-all}
 use Rattle.model.specs.Numbers.{if_then_else_}
 use Rattle.model.specs.Frame as Frames
@@ -67,11 +67,6 @@ is-edited (Refused why) count all h = absurd (false≢true (ap isEdited h))
 is-edited Opened count all h = absurd (false≢true (ap isEdited h))
 is-edited Closed count all h = absurd (false≢true (ap isEdited h))
 is-edited (Edited n b) count all h = ap₂ Edited (ap countIn h) (ap allIn h)
-
-taken-fewer : (n : ℕ) (l : List Store) → length (take n l) ≤ length l
-taken-fewer zero l = omega arith
-taken-fewer (suc n) [] = omega arith
-taken-fewer (suc n) (x ∷ xs) = omega (arith, taken-fewer n xs)
 
 module _ (f : Frame) (slots : List ℕ) (slot start size : ℕ) (permission : Permission) (m : List ℕ) (words : (i : ℕ) → getD m i 0 < ENTRY-VALUES) where
   abbrev F : Frames.Frame
@@ -188,7 +183,7 @@ module _ (f : Frame) (slots : List ℕ) (slot start size : ℕ) (permission : Pe
           all = leb (length list) limit;
           accepted = is-edited (r .reply) _ _ (ap (λ (o : model.Outcome). o .reply) (c ∙ here) ∙ replies limit at ok);
           slotsKept = ap (λ (o : model.Outcome). o .slots) (c ∙ here) ∙ edit-stopped F board-lawful slots q at limit ok .1;
-          few = omega (arith, taken-fewer limit list, most-stores F board-lawful slots q m typed accepted ks);
+          few = omega (arith, length-take limit list, most-stores F board-lawful slots q m typed accepted ks);
           asks = asks;
           steady = subst (BeforeOrAfter F slots m (whole F slots q m)) (one-more F board-lawful slots q ks limit m ∙ sym stops)
               (demand3 F board-lawful slots q m typed accepted (ks ++ (limit ∷ [])) .steady);

@@ -15,16 +15,13 @@ ghost use Rattle.types.specs.Views.{entryOf, formOf, freeList};
 pub fn needs_page(form: Form, e: Entry) -> bool
     ensures { λ r. ⌜ r ≡ needsPage (formOf form) (entryOf e) ⌝ }
 {
-    match form {
-        Form::Flat(_) => false,
-        Form::Pieces(_) => false,
-        Form::Table => match e {
-            Entry::Flat(_) => true,
-            Entry::Pieces(_) => true,
-            Entry::Table(_) => false,
-            Entry::Invalid => true,
-        },
+    if let Form::Table = form {
+        if let Entry::Table(_) = e {
+            return false;
+        }
+        return true;
     }
+    false
 }
 
 // The place of the next new page among the free ones.
