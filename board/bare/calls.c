@@ -111,6 +111,6 @@ void check_answer(uint64_t answer, const struct store *list, uint64_t count)
 {
     if (tried->call == EDIT)
         check_edited((mpt_edited){answer}, list, count);
-    else if (mpt_register((mpt_opened){answer}) != scenario->answer)
+    else if (mpt_opened_register((mpt_opened){answer}).value != scenario->answer)
         fail("opens as ", answer, ", by document 01 ", scenario->answer);
 }

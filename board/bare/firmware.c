@@ -11,15 +11,16 @@ static void put_word(uint64_t *at, uint64_t word)
 }
 
 /* A reset in it leaves the slot empty, and nothing is owed. */
-static uint64_t open_slot(struct firmware *kept, uint64_t *words, uint64_t slot, mpt_sdid sdid)
+static uint64_t open_slot(struct firmware *kept, uint64_t *words, mpt_slot slot, mpt_sdid sdid)
 {
     mpt_opened answer = mpt_open(PAW, first, words, COUNT, kept->slots, slot, sdid);
-    mpt_write_opened(kept->slots, slot, answer);
-    return mpt_refused(answer);
+    if (mpt_refused(answer))
+        return mpt_refused(answer);
+    return mpt_write_opened(kept->slots, slot, answer) ? 0 : MPT_BAD_SLOT;
 }
 
 /* No hart runs in the domain any more. A reset before the fence leaves it to start_up. */
-static uint64_t close_slot(struct firmware *kept, const uint64_t *words, uint64_t slot)
+static uint64_t close_slot(struct firmware *kept, const uint64_t *words, mpt_slot slot)
 {
     mpt_closed answer = mpt_close(PAW, first, words, COUNT, kept->slots, slot);
     mpt_sdid sdid = mpt_write_closed(kept->slots, slot, answer);
@@ -30,14 +31,14 @@ static uint64_t close_slot(struct firmware *kept, const uint64_t *words, uint64_
 
 static mpt_edited make_recorded(const struct firmware *kept, uint64_t *words)
 {
-    return mpt_edit(PAW, first, words, COUNT, kept->slots, kept->slot, mpt_to_address(kept->start), kept->length,
+    return mpt_edit(PAW, first, words, COUNT, kept->slots, mpt_to_slot(kept->slot), mpt_to_address(kept->start), kept->length,
                     mpt_to_permission(kept->permission), MPT_MOST_STORES);
 }
 
-static uint64_t edit_range(struct firmware *kept, uint64_t *words, uint64_t slot, mpt_address start, uint64_t length,
+static uint64_t edit_range(struct firmware *kept, uint64_t *words, mpt_slot slot, mpt_address start, uint64_t length,
                            mpt_permission permission)
 {
-    put_word(&kept->slot, slot);
+    put_word(&kept->slot, slot.value);
     put_word(&kept->start, start.value);
     put_word(&kept->length, length);
     put_word(&kept->permission, permission.value);
@@ -92,11 +93,12 @@ const struct plan plan[STEPS] = {
 
 static uint64_t make_step(struct firmware *kept, uint64_t *words, const struct plan *step)
 {
+    mpt_slot slot = mpt_to_slot(step->slot);
     if (step->what == OPEN_SLOT)
-        return open_slot(kept, words, step->slot, mpt_to_sdid(step->sdid));
+        return open_slot(kept, words, slot, mpt_to_sdid(step->sdid));
     if (step->what == CLOSE_SLOT)
-        return close_slot(kept, words, step->slot);
-    return edit_range(kept, words, step->slot, mpt_to_address(step->start), step->length, step->permission);
+        return close_slot(kept, words, slot);
+    return edit_range(kept, words, slot, mpt_to_address(step->start), step->length, step->permission);
 }
 
 /* A step that was made before a reset, but not counted, is made again: an edit then stores nothing, an open finds its slot in use, a close

@@ -7,6 +7,7 @@
 #define TABLE ((void *)0x60000000)
 enum { PAGES = 16, COUNT = PAGES * MPT_PAGE_WORDS };
 static const mpt_page FIRST = {0x80000};
+static const mpt_slot SLOT = {0};
 
 static uint64_t *words;
 static uint64_t slots[MPT_SLOTS];
@@ -15,7 +16,7 @@ static int wrong;
 
 static void edit(uint64_t start, uint64_t length, mpt_permission permission)
 {
-    mpt_edited answer = mpt_edit(paw, FIRST, words, COUNT, slots, 0, mpt_to_address(start), length, permission, MPT_MOST_STORES);
+    mpt_edited answer = mpt_edit(paw, FIRST, words, COUNT, slots, SLOT, mpt_to_address(start), length, permission, MPT_MOST_STORES);
     wrong |= mpt_refused(answer) != 0 || !mpt_all(answer);
 }
 
@@ -26,7 +27,8 @@ int main(int count, char **word)
     if (words != TABLE || name == 0)
         return 2;
     paw = name == 'W' ? 34 : 32;
-    mpt_write_opened(slots, 0, mpt_open(paw, FIRST, words, COUNT, slots, 0, mpt_to_sdid(5)));
+    if (!mpt_write_opened(slots, SLOT, mpt_open(paw, FIRST, words, COUNT, slots, SLOT, mpt_to_sdid(5))))
+        return 1;
     if (name == 'W') {
         edit(0x000000000, 0x080000000, MPT_RW);
         edit(0x0C0000000, 0x340000000, MPT_RW);

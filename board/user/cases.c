@@ -6,6 +6,7 @@
 
 enum { PAW = 32, PAGES = 16, LIMIT = MPT_MOST_STORES };
 static const mpt_page FIRST = {0x80000};
+static const mpt_slot SLOT = {0};
 static uint64_t words[PAGES * PAGE_ENTRIES], slots[MPT_SLOTS];
 static size_t count;
 static uint64_t wrong;
@@ -45,17 +46,17 @@ static void new_domain(size_t pages)
         words[k] = UINT64_C(0x3333333333333333);
     for (int k = 0; k < 8; k++)
         slots[k] = 0;
-    mpt_write_opened(slots, 0, mpt_open(PAW, FIRST, words, count, slots, 0, mpt_to_sdid(5)));
+    expect("opened", mpt_write_opened(slots, SLOT, mpt_open(PAW, FIRST, words, count, slots, SLOT, mpt_to_sdid(5))), 1);
 }
 
 static uint64_t look(mpt_kind kind, uint64_t address)
 {
-    return mpt_lookup(PAW, FIRST, words, count, slots[0], MPT_SUPERVISOR, kind, mpt_to_address(address)).word;
+    return mpt_lookup_slot(PAW, FIRST, words, count, slots, SLOT, MPT_SUPERVISOR, kind, mpt_to_address(address)).word;
 }
 
 static mpt_edited edit(uint64_t start, uint64_t length, mpt_permission permission, uint64_t limit)
 {
-    return mpt_edit(PAW, FIRST, words, count, slots, 0, mpt_to_address(start), length, permission, limit);
+    return mpt_edit(PAW, FIRST, words, count, slots, SLOT, mpt_to_address(start), length, permission, limit);
 }
 
 static mpt_edited page(uint64_t start, mpt_permission permission)
@@ -70,6 +71,7 @@ static void made(const char *what, mpt_edited answer, uint64_t stores, int all, 
     expect("  refused", mpt_refused(answer), 0);
     expect("  stores", mpt_stores(answer), stores);
     expect("  all", mpt_all(answer), all);
+    expect("  cut", mpt_cut(answer), !all);
     expect("  fence", mpt_fence(answer), fence);
     if (fence != MPT_FENCE_NONE)
         expect("  of SDID", mpt_fence_sdid(answer).value, 5);
@@ -160,11 +162,13 @@ static void other_calls(void)
 {
     expect("check", mpt_sound(PAW, FIRST, words, count, slots).word, MPT_FINE);
     expect("check of a broken frame", mpt_sound(29, FIRST, words, count, slots).word, MPT_BAD_FRAME);
-    mpt_looked nobody = mpt_lookup(PAW, FIRST, words, count, 0, mpt_to_privilege(2), MPT_LOAD, mpt_to_address(0));
+    mpt_looked nobody = mpt_lookup(PAW, FIRST, words, count, mpt_to_register(0), mpt_to_privilege(2), MPT_LOAD, mpt_to_address(0));
     expect("a privilege that is none", mpt_lookup_refused(nobody), MPT_OUTSIDE_KIND);
     expect("a permission that is none", mpt_refused(page(0, mpt_to_permission(4))), MPT_OUTSIDE_KIND);
-    expect("open a slot in use", mpt_refused(mpt_open(PAW, FIRST, words, count, slots, 0, mpt_to_sdid(6))), MPT_BAD_SLOT);
-    mpt_closed answer = mpt_close(PAW, FIRST, words, count, slots, 0);
+    expect("open a slot in use", mpt_refused(mpt_open(PAW, FIRST, words, count, slots, SLOT, mpt_to_sdid(6))), MPT_BAD_SLOT);
+    mpt_looked empty = mpt_lookup_slot(PAW, FIRST, words, count, slots, mpt_to_slot(1), MPT_MACHINE, MPT_LOAD, mpt_to_address(0));
+    expect("look in an empty slot", mpt_lookup_refused(empty), MPT_BAD_SLOT);
+    mpt_closed answer = mpt_close(PAW, FIRST, words, count, slots, SLOT);
     expect("close: fence", mpt_fence(answer), MPT_FENCE_DOMAIN);
     expect("close: of SDID", mpt_fence_sdid(answer).value, 5);
     words[32] = UINT64_C(5) << 44;

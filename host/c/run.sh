@@ -1,6 +1,6 @@
 #!/bin/sh
 # The C interface by itself: test.c against mpt.h and a static library, in C and in C++, and as pkg-config finds them once installed; what
-# must not compile (wrong.sh); what must cross in the same registers (abi.sh).
+# must not compile (wrong.sh); what must cross in the same places (abi.sh).
 set -eu
 if [ $# -ne 1 ]; then
     echo "usage: c/run.sh LIBRARY (the proved static library, as in c/run.sh /path/to/libmpt-x86_64.a)" >&2

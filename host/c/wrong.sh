@@ -13,7 +13,7 @@ versions() {
 1:a page number for an address:argument 7 of 'mpt_edit'|'mpt_page'.* to .*'mpt_address'
 2:an address for a page number:argument 2 of 'mpt_edit'|'mpt_address'.* to .*'mpt_page'
 3:both swapped in a lookup:argument 2 of 'mpt_lookup'|'mpt_address'.* to .*'mpt_page'
-4:slot and SDID swapped:argument 6 of 'mpt_open'|'mpt_sdid'.* to .*'uint64_t'
+4:slot and SDID swapped:argument 6 of 'mpt_open'|'mpt_sdid'.* to .*'mpt_slot'
 5:an address for an SDID:argument 7 of 'mpt_open'|'mpt_address'.* to .*'mpt_sdid'
 6:a number for an SDID:argument 7 of 'mpt_open'|'int'.* to .*'mpt_sdid'
 7:a number for an address:argument 8 of 'mpt_lookup'|'int'.* to .*'mpt_address'
@@ -38,7 +38,7 @@ versions() {
 26:a number for a privilege:argument 6 of 'mpt_lookup'|'int'.* to .*'mpt_privilege'
 27:a number for a kind:argument 7 of 'mpt_lookup'|'int'.* to .*'mpt_kind'
 28:a permission for a kind:argument 7 of 'mpt_lookup'|'mpt_permission'.* to .*'mpt_kind'
-29:register and privilege swapped:argument 5 of 'mpt_lookup'|'mpt_privilege'.* to .*'uint64_t'
+29:register and privilege swapped:argument 5 of 'mpt_lookup'|'mpt_privilege'.* to .*'mpt_register'
 30:a kind for a permission:argument 9 of 'mpt_edit'|'mpt_kind'.* to .*'mpt_permission'
 31:a number for a permission:argument 9 of 'mpt_edit'|'int'.* to .*'mpt_permission'
 32:permission and limit swapped:argument 9 of 'mpt_edit'|'int'.* to .*'mpt_permission'
@@ -49,6 +49,21 @@ versions() {
 37:the words of bytes:'uint8_t ?\(\*\)\[8192\]'.* not compatible with any|call to 'mpt_words
 38:bytes for words in an edit:mpt_edit.* accessing 65536 bytes|count is of words
 39:bytes for words in a lookup:mpt_lookup.* reading 65536 bytes|count is of words
+40:an open written to its slot, refused or not:ignoring return value .*warn_unused_result
+41:a lookup by slot left lying:ignoring return value .*warn_unused_result
+42:what a slot holds, empty or not, for a register:argument 5 of 'mpt_lookup'|'uint64_t'.* to .*'mpt_register'
+43:count and register swapped:argument 4 of 'mpt_lookup'|'mpt_register'.* to .*'size_t'
+44:a slot's number for a register:argument 5 of 'mpt_lookup'|'mpt_slot'.* to .*'mpt_register'
+45:a register for a slot's number:argument 6 of 'mpt_lookup_slot'|'mpt_register'.* to .*'mpt_slot'
+46:bytes for words in a lookup by slot:mpt_lookup_slot.* reading 65536 bytes|count is of words
+47:PAW and slot swapped:argument 1 of 'mpt_close'|'mpt_slot'.* to .*'uint64_t'
+48:a number for a slot:argument 6 of 'mpt_open'|'int'.* to .*'mpt_slot'
+49:slot and limit swapped:argument 6 of 'mpt_edit'|'int'.* to .*'mpt_slot'
+50:an SDID for a slot after an open:argument 2 of 'mpt_write_opened'|'mpt_sdid'.* to .*'mpt_slot'
+51:a number for a slot after a close:argument 2 of 'mpt_write_closed'|'int'.* to .*'mpt_slot'
+52:the register of an open written to a slot, refused or not:'uint64_t'.* from .*'mpt_register'|'mpt_register'.* to 'uint64_t'
+53:mpt_cut of an open:argument 1 of 'mpt_cut'|'mpt_opened'.* to .*'mpt_edited'
+54:words and slots swapped in an edit:mpt_edit.* accessing 8192 bytes|count is of words
 .
 }
 

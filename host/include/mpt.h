@@ -17,11 +17,13 @@
  *
  * Kinds that must not be mixed
  *
- *   A page number, an address, an SDID, a privilege, a kind of access and a permission are structs of
- *   one field: one in another's place, or a number, does not compile. The values of the last three have
- *   names (MPT_USER, MPT_LOAD, MPT_RW ..); mpt_to_page, mpt_to_address, mpt_to_sdid, mpt_to_privilege,
- *   mpt_to_kind and mpt_to_permission make one of a number. Both ABIs, x86-64's and RISC-V's lp64d, pass
- *   and return such a struct in the same register as its field.
+ *   A page number, an address, a slot's number, an SDID, a register, a privilege, a kind of access and a
+ *   permission are structs of one field: one in another's place does not compile, and neither does a
+ *   number, but for a number in braces in C++, as in {5}, which makes whatever stands there: don't write
+ *   it. mpt_to_page, mpt_to_address, mpt_to_slot .. make one of a number; the values of the last three
+ *   have names (MPT_USER, MPT_LOAD, MPT_RW ..). What is left are plain numbers, of which no two stand side
+ *   by side: paw, count, length and limit. Both ABIs, x86-64's and RISC-V's lp64d, pass and return such a
+ *   struct in the same place as its field.
  *
  * What every call answers: one word, in a struct of the call's own
  *
@@ -46,9 +48,6 @@
 #define MPT_VERSION_MAJOR 2
 #define MPT_VERSION_MINOR 0
 #define MPT_VERSION ((UINT64_C(1) << 16) * MPT_VERSION_MAJOR + MPT_VERSION_MINOR)
-
-/* MODE 15, which is none: the register of no domain, as mpt_register answers it of a refused open. */
-#define MPT_NO_REGISTER (UINT64_C(15) << 60)
 
 /* An answer may not be left lying. */
 #if defined(__GNUC__) || defined(__clang__)
@@ -87,7 +86,8 @@ enum {
     MPT_PAGE_WORDS = 512,
     MPT_SLOTS = 8,
     MPT_HIGHEST_SDID = 63,
-    MPT_MOST_STORES = 1536 /* a limit that no edit exceeds */
+    MPT_MOST_STORES = 1536, /* a limit that no edit exceeds */
+    MPT_LEAST_LIMIT = 513   /* a new page and its link: with less, an edit may be cut there for ever */
 };
 
 /* Answers. Lowest number first where several fit, except that 8 comes before 7. */
@@ -96,7 +96,7 @@ enum {
     MPT_BAD_FRAME = 1,    /* PAW, page count or first page out of bounds, or not whole pages */
     MPT_BAD_REGISTER = 2, /* lookup: MODE above 1, or Bare with PPN or SDID not zero */
     MPT_NOT_SOUND = 3,    /* open, close, edit: the table is not sound */
-    MPT_BAD_SLOT = 4,     /* slot above 7; empty for close or edit; in use for open */
+    MPT_BAD_SLOT = 4,     /* slot above 7; empty for close, edit or mpt_lookup_slot; in use for open */
     MPT_BAD_RANGE = 5,    /* edit: length 0, not whole pages, or the end above 2^PAW */
     MPT_MEETS_LENT = 6,   /* edit: permission not none and the range meets the lent pages */
     MPT_NO_FREE_PAGE = 7, /* open: no page for a root; edit: too few for the whole edit */
@@ -111,9 +111,10 @@ enum {
  * other than x0, also for the value 0. */
 enum { MPT_FENCE_NONE = 0, MPT_FENCE_DOMAIN = 1, MPT_FENCE_ADDRESS = 2 };
 
-/* The number of a page, a physical address, and a supervisor domain's number. */
+/* The number of a page, a physical address, the number of a slot, and a supervisor domain's number. */
 typedef struct mpt_page { uint64_t value; } mpt_page;
 typedef struct mpt_address { uint64_t value; } mpt_address;
+typedef struct mpt_slot { uint64_t value; } mpt_slot;
 typedef struct mpt_sdid { uint64_t value; } mpt_sdid;
 
 /* A value of a kind below, by its code. (As an initial value of a static object ISO C wants the code in
@@ -123,6 +124,11 @@ typedef struct mpt_sdid { uint64_t value; } mpt_sdid;
 #else
 #define MPT_VALUE(kind, code) ((kind){code})
 #endif
+
+/* A value of mmpt. A slot is a plain word and does not pass for one: where it is empty it holds none. */
+typedef struct mpt_register { uint64_t value; } mpt_register;
+/* MODE 15, which is none: the register of no domain, which every lookup refuses (MPT_BAD_REGISTER). */
+#define MPT_NO_REGISTER MPT_VALUE(mpt_register, UINT64_C(15) << 60)
 
 /* Effective privilege. */
 typedef struct mpt_privilege { uint64_t value; } mpt_privilege;
@@ -166,16 +172,18 @@ MPT_MUST_USE uint64_t mpt_version(void);
 
 /* May an access of this kind, at this privilege, reach this one address under this register?
  *
- *   mmpt       the register's value; any value. NOT an empty slot's: 0 is Bare, which allows
- *              everything, so ask first whether the slot is 0
+ * To ask of a slot, use mpt_lookup_slot.
+ *
+ *   mmpt       the register's value; any value. 0 is Bare, which allows every access: right for a
+ *              register that holds 0, and wrong for an empty slot, which holds 0 too
  *   privilege  MPT_USER, MPT_SUPERVISOR or MPT_MACHINE
  *   kind       MPT_FETCH to MPT_UPDATE_STORE
  *   address    the physical address; any value
  *
  * Answers 0 allowed; 1 or 2 refused; 257, 261 or 263 the fault; 255. See mpt_allowed.
  */
-MPT_MUST_USE mpt_looked mpt_lookup(uint64_t paw, mpt_page first, const uint64_t *words, size_t count, uint64_t mmpt,
-                                   mpt_privilege privilege, mpt_kind kind, mpt_address address)
+MPT_MUST_USE mpt_looked mpt_lookup(uint64_t paw, mpt_page first, const uint64_t *words, size_t count,
+                                   mpt_register mmpt, mpt_privilege privilege, mpt_kind kind, mpt_address address)
     MPT_COUNTED(read_only);
 
 /* Opens an empty slot for a domain: takes the lowest free page and zeroes it. No fence is needed.
@@ -187,7 +195,7 @@ MPT_MUST_USE mpt_looked mpt_lookup(uint64_t paw, mpt_page first, const uint64_t 
  * caller then writes to slots[slot] by mpt_write_opened; 1, 3, 4, 8 or 7 refused.
  */
 MPT_MUST_USE mpt_opened mpt_open(uint64_t paw, mpt_page first, uint64_t *words, size_t count,
-                                 const uint64_t slots[8], uint64_t slot, mpt_sdid sdid);
+                                 const uint64_t slots[8], mpt_slot slot, mpt_sdid sdid);
 
 /* Closes a slot. The caller then writes zero to slots[slot] by mpt_write_closed, and makes the fence
  * before the SDID is used again.
@@ -196,7 +204,7 @@ MPT_MUST_USE mpt_opened mpt_open(uint64_t paw, mpt_page first, uint64_t *words, 
  * 1, 3 or 4 refused.
  */
 MPT_MUST_USE mpt_closed mpt_close(uint64_t paw, mpt_page first, const uint64_t *words, size_t count,
-                                  const uint64_t slots[8], uint64_t slot) MPT_COUNTED(read_only);
+                                  const uint64_t slots[8], mpt_slot slot) MPT_COUNTED(read_only);
 
 /* Gives every page of a range one permission in the domain of a slot. Makes the first stores of
  * document 01's ordered list, up to the limit. After a cut edit the next edit in that domain must be
@@ -206,14 +214,16 @@ MPT_MUST_USE mpt_closed mpt_close(uint64_t paw, mpt_page first, const uint64_t *
  *   start       the first address; a multiple of 4,096
  *   length      in bytes; a multiple of 4,096, not 0
  *   permission  MPT_NONE to MPT_RWX
- *   limit       the most stores to make; MPT_MOST_STORES is always enough
+ *   limit       the most stores to make; MPT_MOST_STORES is always enough. Where an edit is made again
+ *               until it is not cut, MPT_LEAST_LIMIT or more: a new page that was not linked yet is begun
+ *               again, so that with less the edit may never end
  *
  * Answers 256, and in the bits above: how many stores were made (mpt_stores), whether those were all
- * (mpt_all), and the fence (mpt_fence, mpt_fence_sdid; an address fence is for the address start);
- * 1, 3, 4, 5, 6 or 7 refused; 255.
+ * (mpt_all) or the limit cut it (mpt_cut), and the fence (mpt_fence, mpt_fence_sdid; an address fence is
+ * for the address start); 1, 3, 4, 5, 6 or 7 refused; 255.
  */
 MPT_MUST_USE mpt_edited mpt_edit(uint64_t paw, mpt_page first, uint64_t *words, size_t count,
-                                 const uint64_t slots[8], uint64_t slot, mpt_address start, uint64_t length,
+                                 const uint64_t slots[8], mpt_slot slot, mpt_address start, uint64_t length,
                                  mpt_permission permission, uint64_t limit) MPT_COUNTED(read_write);
 
 /* Is the whole table sound? Changes nothing.

@@ -1,5 +1,5 @@
-/* Part of mpt.h, which includes it: numbers into their kinds, how many words an array has, an answer's
- * parts, and the slot after an open and a close. */
+/* Part of mpt.h, which includes it: numbers into their kinds, how many words an array has, a lookup by
+ * slot, an answer's parts, and the slot after an open and a close. */
 #ifndef MPT_ANSWER_H
 #define MPT_ANSWER_H
 
@@ -25,10 +25,23 @@ static inline mpt_address mpt_to_address(uint64_t number)
     return address;
 }
 
+static inline mpt_slot mpt_to_slot(uint64_t number)
+{
+    mpt_slot slot = {number};
+    return slot;
+}
+
 static inline mpt_sdid mpt_to_sdid(uint64_t number)
 {
     mpt_sdid sdid = {number};
     return sdid;
+}
+
+/* Not of an empty slot, which holds no register: 0 is Bare, which allows every access. */
+static inline mpt_register mpt_to_register(uint64_t value)
+{
+    mpt_register mmpt = {value};
+    return mmpt;
 }
 
 /* For a code that came from elsewhere; each that is listed in mpt.h has its name there. */
@@ -64,6 +77,32 @@ static inline int mpt_version_fits(void)
     return library >= MPT_VERSION && library >> 16 == MPT_VERSION_MAJOR;
 }
 
+/* May an access reach the address in the domain of a slot? As mpt_lookup under the register in the slot,
+ * but a slot that is empty or above 7 is refused: MPT_BAD_SLOT, after 255 and MPT_BAD_FRAME. A slot that
+ * holds something else of MODE 0, which no open gave, is MPT_BAD_REGISTER: no slot means Bare. */
+#ifdef __clang__
+#pragma clang diagnostic push
+#pragma clang diagnostic ignored "-Wgcc-compat"
+#endif
+MPT_MUST_USE static inline mpt_looked mpt_lookup_slot(uint64_t paw, mpt_page first, const uint64_t *words, size_t count,
+                                                      const uint64_t slots[8], mpt_slot slot, mpt_privilege privilege,
+                                                      mpt_kind kind, mpt_address address) MPT_COUNTED(read_only);
+#ifdef __clang__
+#pragma clang diagnostic pop
+#endif
+
+static inline mpt_looked mpt_lookup_slot(uint64_t paw, mpt_page first, const uint64_t *words, size_t count,
+                                         const uint64_t slots[8], mpt_slot slot, mpt_privilege privilege,
+                                         mpt_kind kind, mpt_address address)
+{
+    uint64_t held = slot.value < MPT_SLOTS ? slots[slot.value] : 0;
+    mpt_register mmpt = held >> 60 == 0 ? MPT_NO_REGISTER : mpt_to_register(held);
+    mpt_looked answer = mpt_lookup(paw, first, words, count, mmpt, privilege, kind, address);
+    if (held == 0 && answer.word == MPT_BAD_REGISTER)
+        answer.word = MPT_BAD_SLOT;
+    return answer;
+}
+
 /* A lookup's answer: exactly one of these three is not 0. */
 
 static inline int mpt_allowed(mpt_looked answer)
@@ -77,7 +116,7 @@ static inline uint64_t mpt_fault(mpt_looked answer)
     return answer.word > 256 ? answer.word - 256 : 0;
 }
 
-/* 1, 2 or 255. */
+/* 1, 2 or 255, and of mpt_lookup_slot also 4. */
 static inline uint64_t mpt_lookup_refused(mpt_looked answer)
 {
     return answer.word < 256 ? answer.word : 0;
@@ -106,11 +145,11 @@ static inline uint64_t mpt_edit_refused(mpt_edited answer)
     return answer.word < 256 ? answer.word : 0;
 }
 
-/* The register that an open made. If it was refused, MPT_NO_REGISTER, which every lookup refuses
- * (MPT_BAD_REGISTER): 0 would be Bare, which allows everything. */
-static inline uint64_t mpt_register(mpt_opened answer)
+/* The register that an open made. If it was refused, MPT_NO_REGISTER, which every lookup refuses: 0 would
+ * be Bare, which allows everything. */
+static inline mpt_register mpt_opened_register(mpt_opened answer)
 {
-    return answer.word < 256 ? MPT_NO_REGISTER : answer.word;
+    return answer.word < 256 ? MPT_NO_REGISTER : mpt_to_register(answer.word);
 }
 
 /* Of an edit: bits 57:18, how many stores were made. */
@@ -119,10 +158,18 @@ static inline uint64_t mpt_stores(mpt_edited answer)
     return answer.word >> 18 & ((UINT64_C(1) << 40) - 1);
 }
 
-/* Of an edit: bit 9, whether those were all. */
+/* Of an edit: bit 9, whether those were all. 0 of a cut edit, and 0 of a refused one too, which would be
+ * refused again and again: `while (!mpt_all(..))` never ends there. Whether to go on, mpt_cut says. */
 static inline int mpt_all(mpt_edited answer)
 {
     return answer.word >> 9 & 1;
+}
+
+/* Of an edit: whether the limit cut it, so that the same edit is to be made again. 0 of one that is whole,
+ * and 0 of a refused one. */
+static inline int mpt_cut(mpt_edited answer)
+{
+    return mpt_edit_refused(answer) == 0 && !mpt_all(answer);
 }
 
 /* The fence's kind, bits 11:10, and if it is not MPT_FENCE_NONE its SDID, bits 17:12. */
@@ -168,16 +215,16 @@ static inline void mpt_write_slot(uint64_t *place, uint64_t value)
  * answer can't be this slot's: the slot is above 7 or in use, or another has that SDID or that page, as
  * after two opens of which neither was written. An answer does not name its slot: that it goes to the
  * one that was opened, and not to another empty one, is the caller's to see to. */
-static inline int mpt_write_opened(uint64_t slots[8], uint64_t slot, mpt_opened answer)
+MPT_MUST_USE static inline int mpt_write_opened(uint64_t slots[8], mpt_slot slot, mpt_opened answer)
 {
-    if (mpt_open_refused(answer) || slot >= MPT_SLOTS || slots[slot] != 0)
+    if (mpt_open_refused(answer) || slot.value >= MPT_SLOTS || slots[slot.value] != 0)
         return 0;
     for (int other = 0; other < MPT_SLOTS; other++) {
         uint64_t differs = slots[other] ^ answer.word;
         if (slots[other] != 0 && ((differs & MPT_REGISTER_SDID) == 0 || (differs & MPT_REGISTER_PAGE) == 0))
             return 0;
     }
-    mpt_write_slot(&slots[slot], answer.word);
+    mpt_write_slot(&slots[slot.value], answer.word);
     return 1;
 }
 
@@ -187,12 +234,12 @@ static inline int mpt_write_opened(uint64_t slots[8], uint64_t slot, mpt_opened 
  * never made: so at a start, before the first open, everything is fenced (MFENCE.SPA x0, x0).
  * If the close was refused, or was another slot's (no two have one SDID), nothing is written, and the
  * SDID is MPT_HIGHEST_SDID + 1, which is none. */
-MPT_MUST_USE static inline mpt_sdid mpt_write_closed(uint64_t slots[8], uint64_t slot, mpt_closed answer)
+MPT_MUST_USE static inline mpt_sdid mpt_write_closed(uint64_t slots[8], mpt_slot slot, mpt_closed answer)
 {
-    if (mpt_close_refused(answer) || slot >= MPT_SLOTS || slots[slot] == 0 ||
-        (slots[slot] >> 54 & 63) != mpt_close_fence_sdid(answer).value)
+    if (mpt_close_refused(answer) || slot.value >= MPT_SLOTS || slots[slot.value] == 0 ||
+        (slots[slot.value] >> 54 & 63) != mpt_close_fence_sdid(answer).value)
         return mpt_to_sdid(MPT_HIGHEST_SDID + 1);
-    mpt_write_slot(&slots[slot], 0);
+    mpt_write_slot(&slots[slot.value], 0);
     /* every hart sees the empty slot before the fence that follows */
     __atomic_thread_fence(__ATOMIC_SEQ_CST);
     return mpt_close_fence_sdid(answer);

@@ -137,8 +137,8 @@ fn one(job: &Job, table: &mut Lent, record: &mut Record, watchdog: &mut Watchdog
     let monitor = Monitor::proved();
     match *job {
         Job::Open(slot, sdid) => match table.register(slot) {
-            Some(Register::EMPTY) => println!("  opened {}", monitor.open(table, slot, sdid)?),
-            _ => println!("  {slot:?} is open already"),
+            None => println!("  opened {}", monitor.open(table, slot, sdid)?),
+            Some(_) => println!("  {slot:?} is open already"),
         },
         Job::Edit(edit) => {
             record.begin(edit);
@@ -146,8 +146,8 @@ fn one(job: &Job, table: &mut Lent, record: &mut Record, watchdog: &mut Watchdog
             record.make(table, watchdog, fence)?;
         }
         Job::Close(slot) => match table.register(slot) {
-            Some(Register::EMPTY) => println!("  {slot:?} is closed already"),
-            _ => println!("  closed: {:?} comes before its SDID is used again", monitor.close(table, slot)?),
+            None => println!("  {slot:?} is closed already"),
+            Some(_) => println!("  closed: {:?} comes before its SDID is used again", monitor.close(table, slot)?),
         },
     }
     Ok(())
@@ -211,11 +211,10 @@ mod tests {
 
     /// How pages read around the ends of the ranges.
     fn reads(mut kept: Kept) -> Vec<Result<Verdict, Refusal>> {
-        let register = Register(kept.slots[0]);
         let table = Lent::new(FRAME, &mut kept.words, &mut kept.slots);
         let look = |page: u64| {
             let kind = Kind::Itself(Access::Store);
-            Monitor::proved().lookup(&table, register, Privilege::Supervisor, kind, Address(page << 12))
+            Monitor::proved().lookup_slot(&table, Slot(0), Privilege::Supervisor, kind, Address(page << 12))
         };
         (0x3FFFE..0x40004).chain(0x41FFE..0x42004).chain([0xC0000]).map(look).collect()
     }

@@ -43,7 +43,8 @@ pub struct Edit {
     /// In bytes.
     pub length: u64,
     pub permission: Permission,
-    /// The most stores to make; [`MOST_STORES`](crate::MOST_STORES) is always enough.
+    /// The most stores to make; [`MOST_STORES`](crate::MOST_STORES) is always enough, and in a loop that goes on while
+    /// the edit is cut [`LEAST_LIMIT`](crate::LEAST_LIMIT).
     pub limit: u64,
 }
 

@@ -17,7 +17,7 @@
 //! let (mut words, mut slots) = ([0; 16 * PAGE_WORDS], [0; SLOTS]);
 //! let mut table = Lent::new(Frame { paw: 32, first: PageNumber(0x80000) }, &mut words, &mut slots);
 //! let monitor = Monitor::proved();
-//! let register = monitor.open(&mut table, Slot(0), Sdid(5))?;
+//! monitor.open(&mut table, Slot(0), Sdid(5))?;
 //! let edit = Edit {
 //!     slot: Slot(0),
 //!     start: Address(0x4000_0000),
@@ -28,8 +28,9 @@
 //! let edited = monitor.edit(&mut table, edit)?;
 //! assert_eq!(edited, Edited { stores: 544, all: true, fence: Fence::Domain(Sdid(5)) });
 //! let store = Kind::Itself(Access::Store);
-//! let verdict = monitor.lookup(&table, register, Privilege::Supervisor, store, Address(0x4000_0FFF))?;
-//! assert_eq!(verdict, Verdict::Allowed);
+//! let look = |slot| monitor.lookup_slot(&table, slot, Privilege::Supervisor, store, Address(0x4000_0FFF));
+//! assert_eq!(look(Slot(0))?, Verdict::Allowed);
+//! assert_eq!(look(Slot(1)), Err(Refusal::BadSlot)); // it is empty
 //! # Ok::<(), Refusal>(())
 //! ```
 //!
@@ -78,5 +79,5 @@ pub use monitor::Monitor;
 pub use proved::{Proved, VERSION};
 #[cfg(feature = "std")]
 pub use table::Table;
-pub use table::{Frame, Lent, Memory, MOST_STORES, PAGE_WORDS, SLOTS};
+pub use table::{Frame, Lent, Memory, LEAST_LIMIT, MOST_STORES, PAGE_WORDS, SLOTS};
 pub use types::{Access, Address, Kind, PageNumber, Permission, Privilege, Register, Sdid, Slot};

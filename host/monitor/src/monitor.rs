@@ -37,8 +37,9 @@ impl<I: Interface> Monitor<I> {
         answer
     }
 
-    /// May an access of this kind reach the address under this register?
-    /// An empty slot holds no register to ask about: zero is Bare, which allows everything ([`Register::EMPTY`]).
+    /// May an access of this kind reach the address under this register? Zero is Bare, which allows every access:
+    /// right for a register that holds zero, and wrong for an empty slot, which holds zero too. Of a slot ask
+    /// [`lookup_slot`](Self::lookup_slot).
     #[inline]
     pub fn lookup(
         &self,
@@ -52,6 +53,26 @@ impl<I: Interface> Monitor<I> {
         match self.0.read(table.view(), call) {
             Answer::Looked(verdict) => Ok(verdict),
             other => refused(other),
+        }
+    }
+
+    /// May an access of this kind reach the address in the domain of a slot? As [`lookup`](Self::lookup) under the
+    /// register in the slot, but a slot that is empty or above 7 is refused ([`Refusal::BadSlot`]), and so, as a
+    /// register, is anything else of MODE 0, which no open gave: no slot means Bare.
+    #[inline]
+    pub fn lookup_slot(
+        &self,
+        table: &impl Memory,
+        slot: Slot,
+        privilege: Privilege,
+        kind: Kind,
+        address: Address,
+    ) -> Result<Verdict, Refusal> {
+        let held = table.register(slot);
+        let register = held.filter(|register| register.mode() != 0).unwrap_or(Register::NONE);
+        match self.lookup(table, register, privilege, kind, address) {
+            Err(Refusal::BadRegister) if held.is_none() => Err(Refusal::BadSlot),
+            answer => answer,
         }
     }
 

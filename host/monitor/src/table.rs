@@ -11,6 +11,9 @@ pub const PAGE_WORDS: usize = 512;
 pub const SLOTS: usize = 8;
 /// As many stores as the longest edit makes.
 pub const MOST_STORES: u64 = 1536;
+/// A new page and its link. An edit that is made again until it was all needs this limit or more: a page that was not
+/// linked yet is begun again, so that with less it may be cut there for ever.
+pub const LEAST_LIMIT: u64 = 513;
 
 /// The physical address width and the first lent page. Any values: the monitor refuses bad ones.
 #[derive(Clone, Copy, Debug, PartialEq, Eq)]
@@ -28,10 +31,10 @@ pub trait Memory {
     /// Writes one slot, after an open or a close. A slot above 7 is none.
     fn set_slot(&mut self, slot: Slot, register: Register);
 
-    /// The register in a slot; nothing for a slot above 7.
+    /// The register in a slot; nothing for an empty slot, which holds none, and for a slot above 7.
     fn register(&self, slot: Slot) -> Option<Register> {
         let index = usize::try_from(slot.0).ok()?;
-        self.view().slots.get(index).copied().map(Register)
+        self.view().slots.get(index).copied().map(Register).filter(|register| !register.is_empty())
     }
 }
 
@@ -43,7 +46,7 @@ pub trait Memory {
 /// let mut table = Lent::new(Frame { paw: 32, first: PageNumber(0x80000) }, &mut words, &mut slots);
 /// table.set_slot(Slot(1), Register(0x1140_0000_0008_0000));
 /// assert_eq!(table.register(Slot(1)), Some(Register(0x1140_0000_0008_0000)));
-/// assert_eq!(table.register(Slot(8)), None);
+/// assert_eq!((table.register(Slot(2)), table.register(Slot(8))), (None, None));
 /// ```
 #[derive(Debug)]
 pub struct Lent<'a> {

@@ -51,9 +51,12 @@ impl Address {
 }
 
 impl Register {
-    /// What an empty slot holds. **As a register it is Bare, which allows every access**: a slot is asked whether it
-    /// is empty before a lookup is made under what it holds.
+    /// What an empty slot holds. **As a register it is Bare, which allows every access**: of a slot,
+    /// [`lookup_slot`](crate::Monitor::lookup_slot) is asked.
     pub const EMPTY: Register = Register(0);
+
+    /// MODE 15, which is none: every lookup refuses it.
+    pub const NONE: Register = Register(15 << 60);
 
     /// A slot that holds zero is empty.
     pub fn is_empty(self) -> bool {

@@ -62,6 +62,35 @@ fn arguments_keep_their_places() {
     assert_eq!(sound, Call::Reading(Reading::Sound));
 }
 
+/// By slot, a lookup is made under the register that stands there. A slot that is empty or above 7 has none, and is
+/// refused where the frame is fine; anything else of MODE 0 is no register of a slot.
+#[test]
+fn a_lookup_by_slot_never_asks_under_bare() {
+    let (wpri, open) = (Register(1 << 44), Register(0x1140_0000_0008_0000));
+    let table = &Table::from_parts(FRAME, vec![0; 1536], [open.0, 0, wpri.0, 2 << 60, 0, 0, 0, 0]);
+    let asked = |slot, answer| {
+        let program = canned(answer);
+        let kind = Kind::Itself(Access::Load);
+        let looked = Monitor::over(&program).lookup_slot(table, Slot(slot), Privilege::User, kind, Address(71));
+        match program.asked.take() {
+            Some((_, _, Call::Reading(Reading::Lookup { register, privilege: 0, kind: 1, address: Address(71) }))) => {
+                (register, looked)
+            }
+            other => panic!("asked {other:?}"),
+        }
+    };
+    let (frame, register) = (Answer::Refused(Refusal::BadFrame), Answer::Refused(Refusal::BadRegister));
+    for slot in [1, 4, 7, 8, 9, 1 << 32, u64::MAX] {
+        assert_eq!(table.register(Slot(slot)), None);
+        assert_eq!(asked(slot, register), (Register::NONE, Err(Refusal::BadSlot)));
+        assert_eq!(asked(slot, frame), (Register::NONE, Err(Refusal::BadFrame)));
+    }
+    assert_eq!(asked(0, Answer::Looked(Verdict::Allowed)), (open, Ok(Verdict::Allowed)));
+    assert_eq!(asked(0, Answer::fault(5)), (open, Ok(Verdict::Fault(Cause::Load))));
+    assert_eq!(asked(2, register), (Register::NONE, Err(Refusal::BadRegister)));
+    assert_eq!(asked(3, register), (Register(2 << 60), Err(Refusal::BadRegister)));
+}
+
 /// After an open the register stands in its slot, after a close zero, and a refusal changes none.
 #[test]
 fn slots_are_written_as_the_header_asks() {
@@ -145,6 +174,17 @@ fn the_version_is_the_headers() {
     assert_eq!(Proved.version(), VERSION);
 }
 
+/// The constants that the header names too.
+#[test]
+fn limits_are_the_headers() {
+    let header = include_str!("../../include/mpt.h");
+    for (name, value) in [("MPT_MOST_STORES", MOST_STORES), ("MPT_LEAST_LIMIT", LEAST_LIMIT)] {
+        assert!(header.contains(&format!("    {name} = {value}")), "{name}");
+    }
+    assert!(header.contains("#define MPT_NO_REGISTER MPT_VALUE(mpt_register, UINT64_C(15) << 60)"));
+    assert_eq!(Register::NONE.mode(), 15);
+}
+
 /// Case C and E of document 01 through the proved library.
 #[cfg(feature = "proved")]
 #[test]
@@ -157,11 +197,67 @@ fn the_proved_library_answers() {
     let edited = Edited { stores: 544, all: true, fence: Fence::Domain(Sdid(5)) };
     assert_eq!(monitor.edit(&mut table, edit), Ok(edited));
     assert_eq!(table.words()[32], 0x0000_4000_0008_0001);
-    let register = table.register(Slot(0)).unwrap();
-    let look = |kind, at| monitor.lookup(&table, register, Privilege::Supervisor, kind, Address(at));
+    let look = |kind, at| monitor.lookup_slot(&table, Slot(0), Privilege::Supervisor, kind, Address(at));
     assert_eq!(look(Kind::Itself(Access::Store), 0x4000_0FFF), Ok(Verdict::Allowed));
     assert_eq!(look(Kind::PageTableRead(Access::Store), 0x4000_1000), Ok(Verdict::Fault(Cause::Store)));
+    for (slot, privilege) in [1, 8, u64::MAX].into_iter().flat_map(|slot| Privilege::ALL.map(|each| (slot, each))) {
+        let looked = Kind::all().map(|kind| monitor.lookup_slot(&table, Slot(slot), privilege, kind, Address(0)));
+        assert!(looked.eq([Err(Refusal::BadSlot); 9]), "{slot} {privilege:?}");
+    }
     assert_eq!(monitor.sound(&table), Ok(()));
     assert_eq!(monitor.close(&mut table, Slot(0)), Ok(Fence::Domain(Sdid(5))));
     assert_eq!(table.slots(), &[0; SLOTS]);
+}
+
+/// With the least limit an edit that is made again and again ends, within five calls. With one store less, an edit with
+/// a new page does not.
+#[cfg(feature = "proved")]
+#[test]
+fn an_edit_in_parts_ends() {
+    let monitor = Monitor::proved();
+    // how many calls, up to ten, and whether the edit was all by then
+    let calls = |table: &mut Table, edit| {
+        for calls in 1..=10 {
+            match monitor.edit(table, edit) {
+                Ok(edited) if edited.all => return Ok((calls, true)),
+                Ok(_) => {}
+                Err(refusal) => return Err((calls, refusal)),
+            }
+        }
+        Ok((10, false))
+    };
+    let mut seed: u64 = 88_172_645_463_325_252;
+    let mut below = |bound: u64| {
+        seed ^= seed << 13;
+        seed ^= seed >> 7;
+        seed ^= seed << 17;
+        seed % bound
+    };
+    let mut cut = 0;
+    for _ in 0..100 {
+        let (paw, pages) = (30 + below(5), 3 + below(30) as usize);
+        let words = (0..pages * PAGE_WORDS).map(|_| below(u64::MAX)).collect();
+        let table = &mut Table::from_parts(Frame { paw, first: PageNumber(0x1000) }, words, [0; SLOTS]);
+        monitor.open(table, Slot(0), Sdid(5)).unwrap();
+        for _ in 0..20 {
+            let (top, size) = (1 << (paw - 12), [1, 512, 8192, 1 << 18][below(4) as usize]);
+            let start = below(top);
+            let length = ((1 + below(3)) * size).min(top - start) << 12;
+            let permission = Permission::ALL[below(4) as usize];
+            let edit = Edit { slot: Slot(0), start: Address(start << 12), length, permission, limit: LEAST_LIMIT };
+            match calls(table, edit) {
+                Ok((calls, all)) => {
+                    assert!(all && calls <= 5, "{edit:?}");
+                    cut += u64::from(calls > 1);
+                }
+                Err((calls, _)) => assert_eq!(calls, 1, "{edit:?}"),
+            }
+        }
+    }
+    assert!(cut > 100, "{cut} were cut");
+    let table = &mut Table::new(Frame { paw: 32, first: PageNumber(0x80000) }, 16);
+    monitor.open(table, Slot(0), Sdid(5)).unwrap();
+    let (start, limit) = (Address(0x4000_0000), LEAST_LIMIT - 1);
+    let edit = Edit { slot: Slot(0), start, length: 0x1000, permission: Permission::Rw, limit };
+    assert_eq!(calls(table, edit), Ok((10, false)));
 }
