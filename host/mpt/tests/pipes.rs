@@ -113,7 +113,7 @@ fn what_cannot_be_read_is_named() {
 fn a_file_that_is_no_text_is_named_once_and_nothing_of_it_is_obeyed() {
     let (image, saved) = (file("saved-table"), file("saved-by-no-text"));
     let (image, saved) = (image.to_str().unwrap(), saved.to_str().unwrap());
-    assert_eq!(fed(&["run"], format!("frame 32 0x80000 16\nopen 0 5\nsave {image}\n").as_bytes()).0, 0);
+    assert_eq!(fed(&["run", "--second"], format!("frame 32 0x80000 16\nopen 0 5\nsave {image}\n").as_bytes()).0, 0);
     let wide: Vec<u8> = "frame 32 1 2\r\n".encode_utf16().flat_map(u16::to_le_bytes).collect();
     let stray = format!("frame 32 1 2\nsave {saved}\n# \0\nfree\nopne\n");
     let files = [(fs::read(image).unwrap(), 1), ([&b"\xff\xfe"[..], &wide].concat(), 1), (stray.into_bytes(), 3)];
@@ -122,7 +122,7 @@ fn a_file_that_is_no_text_is_named_once_and_nothing_of_it_is_obeyed() {
         let script = file(&format!("no-text-{nth}"));
         fs::write(&script, bytes).unwrap();
         for name in ["run", "map"] {
-            let (status, output, error) = ended(command(&[name, script.to_str().unwrap()]));
+            let (status, output, error) = ended(command(&[name, script.to_str().unwrap(), "--second"]));
             assert_eq!((status, output.as_str(), error.lines().count()), (2, "", 1), "{error}");
             let wanted = format!("no-text-{nth}: line {line} has a zero byte: this is no text of commands");
             assert!(error.contains(&wanted) && error.contains("`mpt map --image FILE PAW FIRST`"), "{error}");
@@ -135,10 +135,10 @@ fn a_file_that_is_no_text_is_named_once_and_nothing_of_it_is_obeyed() {
 #[test]
 fn a_pipe_that_is_no_text_is_read_up_to_there() {
     let input = b"frame 32 1 2\nfree\n\x7fELF\0\n\0\nfree\n";
-    let (status, output, error) = fed(&["run", "-"], input);
+    let (status, output, error) = fed(&["run", "--second", "-"], input);
     assert_eq!((status, output.as_str(), error.lines().count()), (2, "ok\nfree 2\n", 1), "{error}");
     assert!(error.contains("standard input: line 3 has a zero byte"), "{error}");
-    let (status, output, error) = fed(&["map"], input);
+    let (status, output, error) = fed(&["map", "--second"], input);
     assert_eq!((status, output.as_str(), error.lines().count()), (2, "", 1), "{error}");
     for name in ["run", "map"] {
         let (status, _, error) = ended(command(&[name, "/dev/zero"]));
