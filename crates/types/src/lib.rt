@@ -107,7 +107,7 @@ pub enum Admission {
     Refused(Refusal),
 }
 
-// A mark for each lent page, of which no board has more.
+// A mark for each lent page: no board has more than 256 of them.
 pub type Marks = [bool; 256];
 
 // What an edit asks. The permission is its two bits, as an entry holds them.
