@@ -1,4 +1,4 @@
-/* Document 01 once more, in C and from the paper alone: how addresses read, which pages are free, and which stores a call makes, in
+/* Documents 01 and 02 once more, in C and from the papers alone: how addresses read, which pages are free, and which stores a call makes, in
  * their order. What the library does on the board is compared with it. For sound tables; refusals are not here. */
 #include <stddef.h>
 #include <stdint.h>

@@ -12,13 +12,14 @@ static uint64_t word_of(const struct table *table, uint64_t page, uint64_t entry
     return table->words[(page - table->first) * PAGE_ENTRIES + entry];
 }
 
-/* "An L1 page has 512 entries of 16 four-bit fields." */
+/* "An L1 page has 512 entries of 16 four-bit fields." And of document 02: "a reserved bit set in any of its 16 fields faults the access". */
 static void walk_page(const struct table *table, uint64_t page, uint64_t from, uint64_t count, uint8_t *reads)
 {
     for (uint64_t entry = from / 16; entry < (from + count) / 16; entry++) {
         uint64_t fields = word_of(table, page, entry);
+        int reserved = (fields & UINT64_C(0xcccccccccccccccc)) != 0;
         for (int k = 0; k < 16; k++)
-            reads[entry * 16 + k - from] = (fields >> k * 4 & 15) > 3 ? FAULT : fields >> k * 4 & 3;
+            reads[entry * 16 + k - from] = reserved ? FAULT : fields >> k * 4 & 3;
     }
 }
 

@@ -1,5 +1,5 @@
-/* The bench cases of document 01, A to K, by the library alone. One line for each answer; the expected ones are the paper's own numbers, or
- * follow from its text by hand. `bench_cases` returns how many were wrong. */
+/* The bench cases of document 01, A to K, and that of document 02, item 3, by the library alone. One line for each answer; the expected ones are
+ * the papers' own numbers, or follow from their text by hand. `bench_cases` returns how many were wrong. */
 #include "mpt.h"
 #include "say.h"
 #include "second.h"
@@ -18,7 +18,7 @@ static void expect(const char *what, uint64_t got, uint64_t want)
     say_hex(got);
     if (got != want) {
         wrong++;
-        say(" WRONG, document 01 says ");
+        say(" WRONG, the papers say ");
         say_hex(want);
     }
     put('\n');
@@ -158,6 +158,35 @@ static void cases_i_to_k(void)
     memory("K");
 }
 
+/* Document 02, item 3: "L1 entry 0x4000000000000002, load of its page 0, fault 5". Page 15 has the bit, and the next entry has none. Then each
+ * bit of an entry of rw in turn, of which 32 are reserved, and each of its 16 pages, by the library and by the second walk. */
+static void case_v(void)
+{
+    _Alignas(8) uint8_t reads[16];
+    uint64_t right = 0, second = 0;
+    new_domain(PAGES);
+    expect("V: rw at 0x40000000 first", mpt_stores(page(0x40000000, MPT_RW)), 544);
+    words[512] = UINT64_C(0x4000000000000002);
+    words[513] = 0x2;
+    expect("V: load of page 0", look(MPT_LOAD, 0x40000000), MPT_LOAD_FAULT);
+    expect("V: load of page 15", look(MPT_LOAD, 0x4000f000), MPT_LOAD_FAULT);
+    expect("V: load of page 0 of the next entry", look(MPT_LOAD, 0x40010000), MPT_FINE);
+    expect("V: check", mpt_sound(PAW, FIRST, words, count, slots).word, MPT_NOT_SOUND);
+    struct table table = {PAW, FIRST.value, count / PAGE_ENTRIES, words, slots};
+    for (int bit = 0; bit < 64; bit++) {
+        words[512] = UINT64_C(0x2222222222222222) | UINT64_C(1) << bit;
+        second_walk(&table, slots[0], 0x40000, 16, reads);
+        for (uint64_t nth = 0; nth < 16; nth++) {
+            right += (look(MPT_LOAD, 0x40000000 + nth * PAGE) == MPT_LOAD_FAULT) == (bit % 4 > 1);
+            second += (reads[nth] == FAULT) == (bit % 4 > 1);
+        }
+    }
+    expect("V: loads of 16 pages with each bit set in turn, right", right, 64 * 16);
+    expect("V: the same by the second walk", second, 64 * 16);
+    words[512] = 0x2;
+    memory("V");
+}
+
 static void other_calls(void)
 {
     expect("check", mpt_sound(PAW, FIRST, words, count, slots).word, MPT_FINE);
@@ -195,6 +224,7 @@ uint64_t bench_cases(void)
     cases_a_to_e();
     cases_f_to_h();
     cases_i_to_k();
+    case_v();
     other_calls();
     return wrong;
 }

@@ -1,4 +1,4 @@
-/* Cases A, C, E and F of document 01, arguments outside their kind, the parts of answers, cut edits and the slots after them, written
+/* Cases A, C, E and F of document 01, that of document 02, item 3, arguments outside their kind, the parts of answers, cut edits and the slots after them, written
  * against mpt.h alone. Every number is the paper's, or follows from it by hand. Exit status 0 if all answers are right. */
 #include "mpt.h"
 
@@ -19,7 +19,7 @@ static void expect(const char *what, uint64_t got, uint64_t want)
     if (got == want)
         return;
     wrong++;
-    fprintf(stderr, "%s: got 0x%" PRIx64 ", document 01 says 0x%" PRIx64 "\n", what, got, want);
+    fprintf(stderr, "%s: got 0x%" PRIx64 ", the papers say 0x%" PRIx64 "\n", what, got, want);
 }
 
 static mpt_looked look(mpt_kind kind, uint64_t address)
@@ -113,6 +113,18 @@ static void case_f(void)
     expect("F: fence", mpt_fence(answer), MPT_FENCE_ADDRESS);
     expect("F: fence SDID", mpt_fence_sdid(answer).value, 5);
     expect("F: L1 entry 0 after", words[512], 0x1002);
+}
+
+/* "L1 entry 0x4000000000000002, load of its page 0, fault 5"; page 15 has the bit. */
+static void case_v(void)
+{
+    uint64_t kept = words[512];
+    words[512] = UINT64_C(0x4000000000000002);
+    looked("V: load of page 0", look(MPT_LOAD, 0x40000000), 0, 5, 0);
+    looked("V: load of page 15", look(MPT_LOAD, 0x4000F000), 0, 5, 0);
+    expect("V: sound", (uint64_t)mpt_is_sound(mpt_sound(PAW, FIRST, words, COUNT, slots)), 0);
+    words[512] = kept;
+    looked("V: load of page 0 without it", look(MPT_LOAD, 0x40000000), 1, 0, 0);
 }
 
 static void codes(void)
@@ -225,6 +237,7 @@ int main(void)
     case_c();
     case_e();
     case_f();
+    case_v();
     codes();
     lookups_by_slot();
     cut_edits();
@@ -237,6 +250,6 @@ int main(void)
     bounds("too many pages", PAW, MPT_MOST_PAGES + 1, 0);
     close_bench();
     if (wrong == 0)
-        puts("C interface: cases A, C, E and F as document 01 says");
+        puts("C interface: cases A, C, E, F and V as the papers say");
     return wrong == 0 ? 0 : 1;
 }

@@ -172,7 +172,8 @@ MPT_MUST_USE uint64_t mpt_version(void);
 
 /* May an access of this kind, at this privilege, reach this one address under this register?
  *
- * To ask of a slot, use mpt_lookup_slot.
+ * To ask of a slot, use mpt_lookup_slot. The table need not be sound: an entry that breaks the rules
+ * faults, and an L1 entry with a reserved bit set in any of its 16 fields faults for all its pages.
  *
  *   mmpt       the register's value; any value. 0 is Bare, which allows every access: right for a
  *              register that holds 0, and wrong for an empty slot, which holds 0 too

@@ -175,3 +175,7 @@ onePageShort =
 
 unfoldable pub afterT : Outcome
 afterT = edits bench onePageShort (ask 0x40000000 0x1000 readWrite) most
+
+-- V: L1 entry 0 has a reserved bit in field 15, and rw in field 0; L1 entry 1 has rw in field 0 and no reserved bit
+unfoldable pub reservedBit : Outcome
+reservedBit = stands (set (set (set (replicate 8192 0) 32 0x0000400000080001) 512 0x4000000000000002) 513 0x2) 0x1140000000080000

@@ -12,7 +12,7 @@ use lib.Dec.{eqb, leb, ltb}
 use borrow.Author.Tests.{eqb-true, ltb-true, lt-ltb, le-ltb, leb-true, le-leb, lt-leb}
 use Rattle.model.specs.Numbers.{if_then_else_, every, digit, pack}
 use Rattle.model.specs.Layout.{pageBytes, blockPages, gibBlocks, piecePages}
-use Rattle.model.specs.Entry.{Entry, flat, pieces, table, invalid, Found, perm, faults, fieldOf}
+use Rattle.model.specs.Entry.{Entry, flat, pieces, table, invalid, Found, perm, faults, clean, fieldOf}
 use Rattle.model.specs.Frame.{Frame, lent}
 use Rattle.model.specs.Walk.{pn0, pn1, pn2, pieceOf, entryAt, found}
 use Rattle.model.specs.Sound.{Slot}
@@ -123,10 +123,10 @@ module _ (F : Frame) (pos : 0 < piecePages (F .layout)) where
     alike e n s = ltb 0 n && (covers q n s || (misses q n s && saysOne e n s))
 
     -- every page of such an L1 entry reads one field
-    fields-one : (w k : ℕ) → 0 < F .layout .fields → allOne w ≡ true → fieldOf (F .layout) w (pn0 (F .layout) k) ≡ (if ltb (w % 16) 4 then perm (w % 16) else faults)
+    fields-one : (w k : ℕ) → 0 < F .layout .fields → allOne w ≡ true → fieldOf (F .layout) w (pn0 (F .layout) k) ≡ (if clean (F .layout) w then perm (w % 16 % 4) else faults)
     unfolding allOne fieldOf pn0
     fields-one w k l h =
-        ap (λ (d : ℕ). if ltb d 4 then perm d else faults) (digit-one 16 w (F .layout .fields) (k % F .layout .fields) (omega arith) (eqb-true _ _ h) (mod-lt k l))
+        ap (λ (d : ℕ). if clean (F .layout) w then perm (d % 4) else faults) (digit-one 16 w (F .layout .fields) (k % F .layout .fields) (omega arith) (eqb-true _ _ h) (mod-lt k l))
 
     says-one : (e : Entry) (n s k : ℕ) → saysOne e n s ≡ true → s ≤ k → k < s + n → says e k ≡ says e s
     unfolding saysOne says

@@ -184,11 +184,14 @@ fn one_word_short() {
     );
 }
 
-// The fields of L1 entries: reserved bits set in the selected field and in another, and an address whose indices all differ.
+// The fields of L1 entries: a reserved bit in the last field stops every page of its entry and none of the next; and an address whose indices
+// all differ.
 fn fields(words: &mut [u64; 1024]) {
-    words[512] = 0x42;
+    words[512] = 0x4000_0000_0000_0002;
+    words[513] = 0x2;
     load(words, 0x4000_0000);
-    load(words, 0x4000_1000);
+    load(words, 0x4000_F000);
+    load(words, 0x4001_0000);
     words[512 + 18] = 0x1000;
     fetch(words, 0x4012_3456);
     store(words, 0x4012_3456);

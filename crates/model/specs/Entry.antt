@@ -51,10 +51,10 @@ module _ (L : Layout) where
 
   -- ---- an L1 entry: fields of four bits. "The low two bits of a field are the permission .., the high two are reserved."
 
-  -- "The base tests the reserved bits of the selected field only; set, they fault."
-  unfoldable pub fieldOf : ℕ → ℕ → Found
-  fieldOf word i = if ltb (digit 16 word i) 4 then perm (digit 16 word i) else faults
-
   -- "all reserved bits in it are zero"
   unfoldable pub clean : ℕ → Bool
   clean word = every (λ i. ltb (digit 16 word i) 4) (L .fields) 0
+
+  -- Document 02, item 3: "Now a reserved bit set in any of its 16 fields faults the access."
+  unfoldable pub fieldOf : ℕ → ℕ → Found
+  fieldOf word i = if clean word then perm (digit 16 word i % 4) else faults

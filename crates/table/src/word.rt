@@ -1,6 +1,7 @@
 // Entries of the tables. L2: INFO, TYPE, ZERO. L1: fields of four bits.
 use crate::board::PIECE_INFO;
 use crate::board::PIECE_TYPE;
+use crate::board::RESERVED;
 use crate::board::TABLE_TYPE;
 use crate::board::TYPE_UNIT;
 use crate::board::Word;
@@ -65,14 +66,14 @@ fn field(word: Word, i: u64) -> u64
     (word as u64 >> (FIELD_BITS * i)) % FIELD_VALUES
 }
 
-// What field i of an L1 entry says: its permission, or a fault where one of its own reserved bits is set.
+// What field i of an L1 entry says: its permission, or a fault where a reserved bit is set in any field of the entry.
 pub fn field_found(word: Word, i: u64) -> Found
     requires { ⌜ i < board .fields ⌝ }
     ensures { λ r. ⌜ foundOf r ≡ entry.fieldOf board word i ⌝ }
 {
     let bits = field(word, i);
-    if bits < PERMISSIONS {
-        return Found::Grant(permission_of(bits));
+    if word as u64 & RESERVED == 0 {
+        return Found::Grant(permission_of(bits % PERMISSIONS));
     }
     Found::Fault
 }

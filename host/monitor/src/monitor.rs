@@ -39,7 +39,8 @@ impl<I: Interface> Monitor<I> {
 
     /// May an access of this kind reach the address under this register? Zero is Bare, which allows every access:
     /// right for a register that holds zero, and wrong for an empty slot, which holds zero too. Of a slot ask
-    /// [`lookup_slot`](Self::lookup_slot).
+    /// [`lookup_slot`](Self::lookup_slot). The table need not be sound: an entry that breaks the rules faults, and an
+    /// L1 entry with a reserved bit set in any of its 16 fields faults for all its pages.
     #[inline]
     pub fn lookup(
         &self,

@@ -1,4 +1,4 @@
-//! `mpt cases`: the bench cases of document 01, each with the paper's own answer.
+//! `mpt cases`: the bench cases of document 01 and those that document 02 adds, each with the paper's own answer.
 
 use crate::answer::{Free, Outcome, Reply};
 use crate::command::parse;
@@ -18,13 +18,15 @@ struct Case {
 /// What is asked, in the language of `mpt run`, and the paper's answer.
 type Step = (&'static str, Paper);
 
-/// An answer of document 01.
+/// An answer of document 01 or 02.
 #[derive(Clone, Copy, Debug)]
 enum Paper {
     Call(Answer),
     /// So many times this word.
     Words(usize, u64),
     Free(usize),
+    /// A word was written past the monitor.
+    Done,
 }
 
 impl Paper {
@@ -33,6 +35,7 @@ impl Paper {
             Paper::Call(answer) => Reply::Call(answer),
             Paper::Words(count, word) => Reply::Words(vec![word; count]),
             Paper::Free(count) => Reply::Free(Free::Pages(count)),
+            Paper::Done => Reply::Done,
         }
     }
 }
@@ -65,7 +68,7 @@ const fn edited(stores: u64, all: bool, fence: Fence) -> Paper {
 
 /// "PAW 32, 16 pages from page 0x80000, slot 0 opened with SDID 5", and then the case. In `look`
 /// stands the domain's register and S mode. Words 0 to 511 are the root, from 512 the next page.
-const CASES: [Case; 11] = [
+const CASES: [Case; 12] = [
     Case { name: "A", pages: 16, steps: &[("look load 0x40000000", fault(Cause::Load))] },
     Case {
         name: "B",
@@ -167,13 +170,28 @@ const CASES: [Case; 11] = [
             ("edit 0 0x42000000 0x1000 rw 1536", all(544)),
         ],
     },
+    // document 02, item 3: "L1 entry 0x4000000000000002, load of its page 0, fault 5"; page 15 has the bit, and the next
+    // entry has none
+    Case {
+        name: "V",
+        pages: 16,
+        steps: &[
+            ("poke 32 0x0000400000080001", Paper::Done),
+            ("poke 512 0x4000000000000002", Paper::Done),
+            ("poke 513 0x0000000000000002", Paper::Done),
+            ("look load 0x40000000", fault(Cause::Load)),
+            ("look load 0x4000F000", fault(Cause::Load)),
+            ("look load 0x40010000", ALLOWED),
+            ("close 0", refused(Refusal::NotSound)),
+        ],
+    },
 ];
 
 pub fn main(mut options: Options) -> Result<u8, String> {
     let programs = options.programs(|| vec![proved_or(PLAIN), SECOND])?;
     options.end()?;
     let mut wrong = 0;
-    print_row("", "asked", "document 01", programs.iter().map(|program| program.name.to_string()));
+    print_row("", "asked", "the papers", programs.iter().map(|program| program.name.to_string()));
     for case in &CASES {
         for (name, (asked, paper), outcomes) in run(case, &programs) {
             let right = outcomes.iter().all(|outcome| is_paper(outcome, paper));
@@ -181,12 +199,12 @@ pub fn main(mut options: Options) -> Result<u8, String> {
             output::failed(u8::from(wrong > 0));
             print_row(name, asked, &shortened(&paper.reply()), outcomes.iter().map(text));
             if !right {
-                output::line("   ^ differs from document 01");
+                output::line("   ^ differs from the papers");
             }
         }
     }
     match wrong {
-        0 => output::line("every answer is document 01's"),
+        0 => output::line("every answer is that of documents 01 and 02"),
         _ => output::line(format!("{wrong} answers differ")),
     }
     Ok(u8::from(wrong > 0))

@@ -1,10 +1,7 @@
 //! The whole-table check, in two versions that differ in how an L1 page is tested.
 
-use crate::lent::{sdid, Lent, Used, PPN, WPRI};
+use crate::lent::{sdid, Lent, Used, PPN, RESERVED, WPRI};
 use crate::{Frame, Refusal, BAD_FRAME, NOT_SOUND};
-
-/// The two reserved bits of each of 16 fields.
-const RESERVED: u64 = 0xCCCC_CCCC_CCCC_CCCC;
 
 /// Hand-tuned: the entries of an L1 page are gathered by OR and tested once.
 pub fn sound(frame: Frame, words: &[u64], slots: &[u64; 8]) -> Result<(), Refusal> {

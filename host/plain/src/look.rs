@@ -1,6 +1,6 @@
 //! The lookup.
 
-use crate::lent::{Lent, PPN};
+use crate::lent::{Lent, PPN, RESERVED};
 use crate::{Frame, Looked, BAD_FRAME, BAD_REGISTER, OUTSIDE_KIND};
 
 /// PPN and SDID, which Bare must leave zero.
@@ -46,8 +46,7 @@ fn walk(lent: Lent, words: &[u64], root: u64, address: u64) -> Option<u64> {
         6 if info < 1 << 32 => Some(info >> (address >> 20 & 30) & 3),
         4 => {
             let entry = words[lent.index(info)? * 512 + (address >> 16 & 511) as usize];
-            let field = entry >> (address >> 10 & 60) & 15;
-            (field < 4).then_some(field)
+            (entry & RESERVED == 0).then_some(entry >> (address >> 10 & 60) & 3)
         }
         _ => None,
     }

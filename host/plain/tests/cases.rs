@@ -1,4 +1,4 @@
-//! Bench cases of document 01 by the codes of the C interface, and the edges of the codes.
+//! Bench cases of documents 01 and 02 by the codes of the C interface, and the edges of the codes.
 
 use plain::{Asked, Edited, Fence, Frame, Looked};
 
@@ -79,6 +79,17 @@ fn cases_i_j_and_k() {
     assert_eq!(edit(&mut state, 0x4200_0000, 0x1000, RW, 1536), Err(7));
     assert_eq!(edit(&mut state, 0x4000_0000, 0x1000, NONE, 1536), all(32));
     assert_eq!(edit(&mut state, 0x4200_0000, 0x1000, RW, 1536), all(544));
+}
+
+#[test]
+fn case_v() {
+    let mut state = opened(16);
+    state.0[32] = 0x0000_4000_0008_0001;
+    state.0[512] = 0x4000_0000_0000_0002;
+    state.0[513] = 0x0000_0000_0000_0002;
+    assert_eq!(look(&state, LOAD, 0x4000_0000), Looked::Fault(5));
+    assert_eq!(look(&state, LOAD, 0x4000_F000), Looked::Fault(5));
+    assert_eq!(look(&state, LOAD, 0x4001_0000), Looked::Allowed);
 }
 
 #[test]

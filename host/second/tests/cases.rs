@@ -1,4 +1,4 @@
-//! The bench cases of document 01, asked of the second program. Every number is the paper's.
+//! The bench cases of documents 01 and 02, asked of the second program. Every number is the paper's.
 
 use second::*;
 
@@ -143,6 +143,32 @@ fn case_k_freed_pages_are_free_for_the_next_call() {
 
 /// "New pages are the lowest pages free before the edit": a page that a cut edit unlinked is free
 /// before its retry. So a retry may end in another page than the uncut edit, with as many free.
+/// Document 02, item 3: "L1 entry 0x4000000000000002, load of its page 0, fault 5".
+#[test]
+fn case_v_a_reserved_bit_in_another_field() {
+    let mut bench = bench();
+    bench.words[32] = 0x0000_4000_0008_0001;
+    bench.words[512] = 0x4000_0000_0000_0002;
+    bench.words[513] = 0x0000_0000_0000_0002;
+    assert_eq!(bench.load(0x4000_0000), Looked::Fault(5));
+    assert_eq!(bench.load(0x4000_F000), Looked::Fault(5));
+    assert_eq!(bench.load(0x4001_0000), Looked::Allowed, "the next entry has none");
+    bench.words[512] = 0x1000_0000_0000_0002;
+    assert_eq!(bench.load(0x4000_0000), Looked::Allowed);
+}
+
+/// One bit of an L1 entry at a time, of which the high two of each field are reserved.
+#[test]
+fn a_reserved_bit_anywhere_stops_every_page_of_its_entry() {
+    let mut bench = bench();
+    bench.words[32] = 0x0000_4000_0008_0001;
+    for (bit, page) in (0..64).flat_map(|bit| (0..16).map(move |page| (bit, page))) {
+        bench.words[512] = 0x2222_2222_2222_2222 | 1 << bit;
+        let answer = if bit % 4 < 2 { Looked::Allowed } else { Looked::Fault(5) };
+        assert_eq!(bench.load(0x4000_0000 + page * 4096), answer, "bit {bit}, page {page}");
+    }
+}
+
 #[test]
 fn a_retry_may_take_the_page_that_the_cut_edit_unlinked() {
     let edit = |bench: &mut Bench, limit| bench.edit(RW, 0x4000_0000, 0x400_1000, limit).unwrap();

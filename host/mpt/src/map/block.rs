@@ -26,7 +26,7 @@ pub enum Form {
     Whole,
     /// By TYPE 6.
     Pieces,
-    /// By TYPE 4, with the L1 page. A field of it may have reserved bits set.
+    /// By TYPE 4, with the L1 page. An entry of it may have a reserved bit set: then its 16 pages fault.
     Pages { page: u64, reserved: bool },
     /// The entry breaks the rules, or names a page that is not lent, or there is none.
     Bad,
@@ -46,13 +46,12 @@ pub struct Shade {
 impl Form {
     /// The form of a block by its entry, as the second program reads it.
     pub fn of(frame: second::Frame, words: &[u64], entry: u64) -> Form {
-        let fields = |&entry: &u64| (0..16).map(move |number| second::field(entry, number));
         match L2::from_word(entry) {
             Some(L2::Whole(_)) => Form::Whole,
             Some(L2::Pieces(_)) => Form::Pieces,
             Some(L2::Pages(page)) => match frame.page(words, page) {
                 Some(entries) => {
-                    Form::Pages { page, reserved: entries.iter().flat_map(fields).any(|field| field.is_none()) }
+                    Form::Pages { page, reserved: entries.iter().any(|&entry| second::fields(entry).is_none()) }
                 }
                 None => Form::Bad,
             },

@@ -3,6 +3,7 @@
 
 use super::bounds::{AddressBound, FrameBound, RangeBound};
 use super::forms::Change;
+use super::reserved::Load;
 use super::rules::Rule;
 use super::segments::Segment;
 use super::sweep::Target;
@@ -24,6 +25,8 @@ pub enum Class {
     Cut(Segment),
     /// An entry, a register or an address that differs from a good one in this bit.
     Bit(Target, u8),
+    /// A load on which one reserved bit decides.
+    Reserved(Load),
     /// A table that is not sound by this rule alone.
     Unsound(Rule),
     /// A sound table: its PAW, its open slots, its pages in use and free, each by a range of numbers.
@@ -112,6 +115,7 @@ impl Class {
         all.extend(RangeBound::all().map(Class::Range));
         all.extend(Rule::ALL.map(Class::Unsound));
         all.extend(Target::ALL.into_iter().flat_map(|target| (0..64).map(move |bit| Class::Bit(target, bit))));
+        all.extend(Load::all().map(Class::Reserved));
         all.extend(Change::all().map(Class::Block));
         all.extend(Segment::all().map(Class::Cut));
         all
@@ -136,6 +140,7 @@ impl Class {
                 let quarter = bit / 16 * 16;
                 ("one bit changed", own(target.name(), format!("bits {quarter}-{}", quarter + 15)))
             }
+            Class::Reserved(load) => ("one reserved bit of an L1 entry decides on a load of", load.place()),
             Class::Block(change) => ("blocks before and after an edit", change.place()),
             Class::Cut(segment) => ("cuts, between the last store made and the next", segment.place()),
         };

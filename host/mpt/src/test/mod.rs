@@ -15,6 +15,7 @@ mod outside;
 mod places;
 mod reading;
 mod report;
+mod reserved;
 mod rules;
 mod segments;
 mod sequence;

@@ -1,6 +1,6 @@
 //! The rules of a sound table, one by one, so that a run shows that each was broken alone.
 
-use super::layout::{entries, linked, open, within_bounds, words_of, INFO};
+use super::layout::{entries, linked, open, within_bounds, words_of, INFO, RESERVED};
 use mpt_monitor::{Register, Table};
 
 /// "Open slots have MODE 1, WPRI zero, distinct SDIDs, distinct root pages inside the lent memory", and so on.
@@ -123,7 +123,7 @@ fn link_rules(table: &Table, page: u64, roots: &[u64]) -> Vec<Rule> {
         Some(_) if roots.contains(&page) => return vec![Rule::LinkToRoot],
         Some(at) => at,
     };
-    let reserved = table.words()[at].iter().any(|word| word & 0xCCCC_CCCC_CCCC_CCCC != 0);
+    let reserved = table.words()[at].iter().any(|word| word & RESERVED != 0);
     reserved.then_some(Rule::Reserved).into_iter().collect()
 }
 

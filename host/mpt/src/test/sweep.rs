@@ -5,6 +5,7 @@ use super::aim::{self, walk_to};
 use super::class::Class;
 use super::layout::{blocks, open, pages, words_of};
 use super::reading::used_pages;
+use super::reserved::loads;
 use super::trial::{Failure, Trial};
 use crate::command::Command;
 use crate::random::Random;
@@ -106,6 +107,11 @@ fn word(trial: &mut Trial, random: &mut Random, target: Target, index: usize) ->
         if let Some(walk) = walk {
             for _ in 0..2 {
                 trial.obey(aim::lookup(random, walk, bit))?;
+            }
+            if walk.in_l1 {
+                for load in loads(random, trial.table(), walk, index, bit) {
+                    trial.obey(load)?;
+                }
             }
         }
         let harmless = aim::harmless(random, trial.table());

@@ -96,6 +96,15 @@ fn damage_is_shown() {
 }
 
 #[test]
+fn a_reserved_bit_closes_the_pages_of_its_entry_and_no_other() {
+    let whole = [&CASE_C[..2], &["edit 0 0x40000000 0x30000 rw 1536"]].concat();
+    assert_eq!(picture(&whole).domains[0].ranges, [Range { start: 0x4000_0000, end: 0x4003_0000, what: Rw }]);
+    let closed = picture(&[&whole[..], &["poke 513 0x2222222222226222"]].concat());
+    let wanted = [(0x4000_0000, 0x4001_0000), (0x4002_0000, 0x4003_0000)];
+    assert_eq!(closed.domains[0].ranges, wanted.map(|(start, end)| Range { start, end, what: Rw }));
+}
+
+#[test]
 fn a_broken_frame_has_no_picture() {
     assert!(Picture::of(&table(&["frame 29 1 2"]), SECOND).unwrap_err().contains("PAW 29"));
 }
