@@ -1,4 +1,4 @@
-/* The bench cases of document 01, A to K, and that of document 02, item 3, by the library alone. One line for each answer; the expected ones are
+/* The bench cases of document 01, A to K, and V of document 02, item 3, by the library alone. One line for each answer; the expected ones are
  * the papers' own numbers, or follow from their text by hand. `bench_cases` returns how many were wrong. */
 #include "mpt.h"
 #include "say.h"
@@ -158,8 +158,9 @@ static void cases_i_to_k(void)
     memory("K");
 }
 
-/* Document 02, item 3: "L1 entry 0x4000000000000002, load of its page 0, fault 5". Page 15 has the bit, and the next entry has none. Then each
- * bit of an entry of rw in turn, of which 32 are reserved, and each of its 16 pages, by the library and by the second walk. */
+/* Document 02, item 3: "L1 entry 0x4000000000000002, load of its page 0, fault 5". Page 15 has the bit and says none, and the next entry has
+ * no such bit; then the bit where page 15 says rw, and in the lowest field. Then each bit of an entry of rw in turn, of which 32 are
+ * reserved, and each of its 16 pages, by the library and by the second walk. */
 static void case_v(void)
 {
     _Alignas(8) uint8_t reads[16];
@@ -168,22 +169,26 @@ static void case_v(void)
     expect("V: rw at 0x40000000 first", mpt_stores(page(0x40000000, MPT_RW)), 544);
     words[512] = UINT64_C(0x4000000000000002);
     words[513] = 0x2;
+    words[514] = UINT64_C(0x6000000000000000);
+    words[515] = UINT64_C(0x2000000000000004);
     expect("V: load of page 0", look(MPT_LOAD, 0x40000000), MPT_LOAD_FAULT);
     expect("V: load of page 15", look(MPT_LOAD, 0x4000f000), MPT_LOAD_FAULT);
     expect("V: load of page 0 of the next entry", look(MPT_LOAD, 0x40010000), MPT_FINE);
+    expect("V: load of page 15, rw", look(MPT_LOAD, 0x4002f000), MPT_LOAD_FAULT);
+    expect("V: store to page 15, the bit in field 0", look(MPT_STORE, 0x4003f000), MPT_STORE_FAULT);
     expect("V: check", mpt_sound(PAW, FIRST, words, count, slots).word, MPT_NOT_SOUND);
     struct table table = {PAW, FIRST.value, count / PAGE_ENTRIES, words, slots};
     for (int bit = 0; bit < 64; bit++) {
         words[512] = UINT64_C(0x2222222222222222) | UINT64_C(1) << bit;
         second_walk(&table, slots[0], 0x40000, 16, reads);
         for (uint64_t nth = 0; nth < 16; nth++) {
-            right += (look(MPT_LOAD, 0x40000000 + nth * PAGE) == MPT_LOAD_FAULT) == (bit % 4 > 1);
-            second += (reads[nth] == FAULT) == (bit % 4 > 1);
+            right += look(MPT_LOAD, 0x40000000 + nth * PAGE) == (bit % 4 > 1 ? MPT_LOAD_FAULT : MPT_FINE);
+            second += reads[nth] == (bit % 4 > 1 ? FAULT : words[512] >> nth * 4 & 3);
         }
     }
     expect("V: loads of 16 pages with each bit set in turn, right", right, 64 * 16);
     expect("V: the same by the second walk", second, 64 * 16);
-    words[512] = 0x2;
+    words[512] = words[514] = words[515] = 0x2;
     memory("V");
 }
 

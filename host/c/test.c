@@ -1,5 +1,5 @@
-/* Cases A, C, E and F of document 01, that of document 02, item 3, arguments outside their kind, the parts of answers, cut edits and the slots after them, written
- * against mpt.h alone. Every number is the paper's, or follows from it by hand. Exit status 0 if all answers are right. */
+/* Cases A, C, E and F of document 01, V of document 02, item 3, arguments outside their kind, the parts of answers, cut edits and the slots
+ * after them, written against mpt.h alone. Every number is the papers', or follows from them by hand. Exit status 0 if all answers are right. */
 #include "mpt.h"
 
 #include <inttypes.h>
@@ -115,7 +115,8 @@ static void case_f(void)
     expect("F: L1 entry 0 after", words[512], 0x1002);
 }
 
-/* "L1 entry 0x4000000000000002, load of its page 0, fault 5"; page 15 has the bit. */
+/* "L1 entry 0x4000000000000002, load of its page 0, fault 5"; page 15 has the bit and says none. Then the bit where page 15 says rw, and in
+ * the lowest field. */
 static void case_v(void)
 {
     uint64_t kept = words[512];
@@ -123,6 +124,10 @@ static void case_v(void)
     looked("V: load of page 0", look(MPT_LOAD, 0x40000000), 0, 5, 0);
     looked("V: load of page 15", look(MPT_LOAD, 0x4000F000), 0, 5, 0);
     expect("V: sound", (uint64_t)mpt_is_sound(mpt_sound(PAW, FIRST, words, COUNT, slots)), 0);
+    words[512] = UINT64_C(0x6000000000000000);
+    looked("V: load of page 15, rw", look(MPT_LOAD, 0x4000F000), 0, 5, 0);
+    words[512] = UINT64_C(0x2000000000000004);
+    looked("V: store to page 15", look(MPT_STORE, 0x4000F000), 0, 7, 0);
     words[512] = kept;
     looked("V: load of page 0 without it", look(MPT_LOAD, 0x40000000), 1, 0, 0);
 }

@@ -44,7 +44,8 @@
 #include <stdint.h>
 
 /* The interface's version: the major number grows when a caller must change, the minor one when
- * something is added. mpt_version says the library's. */
+ * something is added. It numbers calls, arguments and answers, and not the rules of the tables: which
+ * requests of document 02 a library has, docs/changes of its source tells. mpt_version says the library's. */
 #define MPT_VERSION_MAJOR 2
 #define MPT_VERSION_MINOR 0
 #define MPT_VERSION ((UINT64_C(1) << 16) * MPT_VERSION_MAJOR + MPT_VERSION_MINOR)

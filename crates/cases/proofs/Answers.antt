@@ -9,7 +9,7 @@ use Rattle.model.specs.Fence.{domainFence}
 use Rattle.model.specs.Stores.{Store}
 use Rattle.model.specs.Calls.{refusedWith, closed, edited, rootOf, finished, storeListWith, storeList}
 use Rattle.laws.proofs.PageRuns.{quickForms, forms-quick}
-use Rattle.cases.specs.Bench.{bench, smallBench, badBench, none, readWrite, ask, askOf, most, opens, closes, closesOn, look, lookBy, eightBytes, freePagesOf, wordsStored, topDigit, wpriSet, pastTheBlocks, reservedBit}
+use Rattle.cases.specs.Bench.{bench, smallBench, badBench, none, readWrite, ask, askOf, most, opens, closes, closesOn, look, lookBy, eightBytes, freePagesOf, wordsStored, topDigit, wpriSet, pastTheBlocks, reservedBits}
 use Rattle.cases.proofs.Sounds.{quickSound, sound-quick}
 use Rattle.cases.proofs.QuickCalls.{held-is-8, full-is-7}
 use Rattle.cases.proofs.Compute.{compute, pos, quick}
@@ -73,17 +73,25 @@ pub U-look-register : lookBy bench 0x2140000000080000 outcomeNew 0x40000000 (its
 unfolding compute slots5 memoryNew outcomeNew
 U-look-register = refl
 
-pub V-load : look reservedBit 0x40000000 (itself load) ≡ fault 5
-unfolding compute reservedBit
+pub V-load : look reservedBits 0x40000000 (itself load) ≡ fault 5
+unfolding compute reservedBits
 V-load = refl
 
-pub V-own : look reservedBit 0x4000F000 (itself load) ≡ fault 5
-unfolding compute reservedBit
+pub V-own-none : look reservedBits 0x4000F000 (itself load) ≡ fault 5
+unfolding compute reservedBits
+V-own-none = refl
+
+pub V-beside : look reservedBits 0x40010000 (itself load) ≡ allowed
+unfolding compute reservedBits
+V-beside = refl
+
+pub V-own : look reservedBits 0x4002F000 (itself load) ≡ fault 5
+unfolding compute reservedBits
 V-own = refl
 
-pub V-next : look reservedBit 0x40010000 (itself load) ≡ allowed
-unfolding compute reservedBit
-V-next = refl
+pub V-lowest : look reservedBits 0x4003F000 (itself store) ≡ fault 7
+unfolding compute reservedBits
+V-lowest = refl
 
 -- ---- calls whose answer alone is asked
 
@@ -151,8 +159,8 @@ pub S-close : closes pastTheBlocks 0 .reply ≡ closed
 unfolding compute pastTheBlocks
 S-close = refl
 
-pub V-close : closes reservedBit 0 .reply ≡ refusedWith 3
-unfolding compute reservedBit
+pub V-close : closes reservedBits 0 .reply ≡ refusedWith 3
+unfolding compute reservedBits
 V-close = refl
 
 -- ---- lowest number first

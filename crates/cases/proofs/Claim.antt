@@ -8,7 +8,7 @@ use Rattle.cases.specs.Bench.{bench, smallBench, badBench, none, readWri
 use Rattle.cases.specs.Cases.{AllOf, done, both, markedCases, otherCases}
 use Rattle.cases.proofs.Compute.{compute, runs}
 use Rattle.cases.proofs.States.{slots5, memoryNew, outcomeNew, new-is, memoryC, outcomeC, C-is, outcomeF, F-is, memoryG, outcomeG, G-is, outcomeH, H-is, outcome512, D512-is, outcome513, D513-is, outcomeK1, K1-is, outcomeK2, K2-is, outcomeL, L-is, outcomeM, M-is, outcomeM2, M2-is, outcomeN, N-is, outcomeO, O-is, outcomeT, T-is}
-use Rattle.cases.proofs.Answers.{gib, A-load, D-load512, D-load513, D-beside, E-store, E-fetch, E-table, I-load, L-load, L-swapped, P-load, R-load, U-look-frame, U-look-register, V-load, V-own, V-next, V-close, D-again, I-edit, I-past, J-lent, J-beside, J-none, K-full, K-freed, N-held, N-close, N-first, N-full, P-close, R-close, S-close, U-frame, U-unsound, U-slot, U-range, U-lent, U-open-frame, U-open-unsound, U-open-slot, U-open-sdid, U-close-frame, U-close-unsound, U-close-slot, G-stored, G-free, O-free, S-free, Q-bytes}
+use Rattle.cases.proofs.Answers.{gib, A-load, D-load512, D-load513, D-beside, E-store, E-fetch, E-table, I-load, L-load, L-swapped, P-load, R-load, U-look-frame, U-look-register, V-load, V-own-none, V-beside, V-own, V-lowest, V-close, D-again, I-edit, I-past, J-lent, J-beside, J-none, K-full, K-freed, N-held, N-close, N-first, N-full, P-close, R-close, S-close, U-frame, U-unsound, U-slot, U-range, U-lent, U-open-frame, U-open-unsound, U-open-slot, U-open-sdid, U-close-frame, U-close-unsound, U-close-slot, G-stored, G-free, O-free, S-free, Q-bytes}
 
 abbrev replyOf : Outcome → Reply
 replyOf o = o .reply
@@ -100,7 +100,9 @@ others =
     (both (ap (λ (o : Outcome). lookBy badBench 0x2140000000080000 o 0x40000000 (itself load)) new-is ∙ U-look-frame)
     (both (ap (λ (o : Outcome). lookBy bench 0x2140000000080000 o 0x40000000 (itself load)) new-is ∙ U-look-register)
     (both V-load
+    (both V-own-none
+    (both V-beside
     (both V-own
-    (both V-next
+    (both V-lowest
     (both V-close
-    done))))))))))))))))))))))))))))))))))))))))))))))))))))))
+    done))))))))))))))))))))))))))))))))))))))))))))))))))))))))

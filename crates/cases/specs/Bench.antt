@@ -176,6 +176,10 @@ onePageShort =
 unfoldable pub afterT : Outcome
 afterT = edits bench onePageShort (ask 0x40000000 0x1000 readWrite) most
 
--- V: L1 entry 0 has a reserved bit in field 15, and rw in field 0; L1 entry 1 has rw in field 0 and no reserved bit
-unfoldable pub reservedBit : Outcome
-reservedBit = stands (set (set (set (replicate 8192 0) 32 0x0000400000080001) 512 0x4000000000000002) 513 0x2) 0x1140000000080000
+-- V: block 32 by an L1 page that begins with these four entries. A reserved bit is set in field 15, which says none, and field 0 says rw;
+-- no reserved bit; in field 15, which says rw; in field 0, and field 15 says rw
+unfoldable pub reservedBits : Outcome
+reservedBits =
+    stands
+    (sets (set (replicate 8192 0) 32 0x0000400000080001) 512 (0x4000000000000002 ∷ 0x0000000000000002 ∷ 0x6000000000000000 ∷ 0x2000000000000004 ∷ []))
+    0x1140000000080000

@@ -1,6 +1,6 @@
 -- The cases. A line `-- CASE. what is asked` stands above each statement, whose right side is what is answered.
--- A to K are document 01's. Those that it marks * are one list by themselves (`markedCases`); D, K and our own, L to U, stand beside it, and so
--- does V, which document 02 adds.
+-- A to K are document 01's. Those that it marks * are one list by themselves (`markedCases`); D, K and our own, L to V, stand beside it. The first
+-- of V is document 02's.
 use mathlib.Core.Path.{_≡_}
 use mathlib.Core.Bool.{true, false}
 use mathlib.Core.List.{List, [], _∷_}
@@ -11,7 +11,7 @@ use Rattle.model.specs.Walk.{pn0, pn1, pn2}
 use Rattle.model.specs.Access.{itself, tableRead, fetch, load, store, refused, allowed, fault}
 use Rattle.model.specs.Fence.{domainFence, addressFence}
 use Rattle.model.specs.Calls.{refusedWith, closed, edited}
-use Rattle.cases.specs.Bench.{bench, smallBench, badBench, none, readWrite, ask, askOf, most, opens, edits, closes, closesOn, look, lookBy, registerAt, l2, l1, eightBytes, freePagesOf, wordsStored, new, afterC, afterF, afterG, afterH, cut512, cut513, small1, small2, afterL, afterM, afterM2, withZero, afterO, topDigit, wpriSet, pastTheBlocks, afterT, reservedBit}
+use Rattle.cases.specs.Bench.{bench, smallBench, badBench, none, readWrite, ask, askOf, most, opens, edits, closes, closesOn, look, lookBy, registerAt, l2, l1, eightBytes, freePagesOf, wordsStored, new, afterC, afterF, afterG, afterH, cut512, cut513, small1, small2, afterL, afterM, afterM2, withZero, afterO, topDigit, wpriSet, pastTheBlocks, afterT, reservedBits}
 
 -- every one of these statements holds
 pub data AllOf : List (Type 0) → Type 1 where
@@ -182,11 +182,15 @@ otherCases =
     -- U. the same with the right frame
     ∷ (lookBy bench 0x2140000000080000 new 0x40000000 (itself load) ≡ refused 2)
     -- V. document 02, item 3: "L1 entry 0x4000000000000002, load of its page 0"
-    ∷ (look reservedBit 0x40000000 (itself load) ≡ fault 5)
-    -- V. load of its page 15, whose field has the bit
-    ∷ (look reservedBit 0x4000F000 (itself load) ≡ fault 5)
-    -- V. load of page 0 of the next entry, 0x2
-    ∷ (look reservedBit 0x40010000 (itself load) ≡ allowed)
+    ∷ (look reservedBits 0x40000000 (itself load) ≡ fault 5)
+    -- V. load of its page 15, whose field has the bit and says none
+    ∷ (look reservedBits 0x4000F000 (itself load) ≡ fault 5)
+    -- V. L1 entry 0x2 beside it, load of its page 0
+    ∷ (look reservedBits 0x40010000 (itself load) ≡ allowed)
+    -- V. L1 entry 0x6000000000000000, load of its page 15, whose field has the bit and says rw
+    ∷ (look reservedBits 0x4002F000 (itself load) ≡ fault 5)
+    -- V. L1 entry 0x2000000000000004, store to its page 15, where the bit is in the lowest field
+    ∷ (look reservedBits 0x4003F000 (itself store) ≡ fault 7)
     -- V. close its slot
-    ∷ (closes reservedBit 0 .reply ≡ refusedWith 3)
+    ∷ (closes reservedBits 0 .reply ≡ refusedWith 3)
     ∷ []

@@ -1,5 +1,5 @@
-// The lookups of document 01's bench cases A, E and I, and of the slips that it names, on a table memory that is put together here word
-// by word. Two pages from page 0x80000 are enough for these cases: a root and one L1 page. Each line is one lookup.
+// The lookups of document 01's bench cases A, E and I, of item 3 of document 02, and of the slips that they name, on a table memory that is
+// put together here word by word. Two pages from page 0x80000 are enough for these cases: a root and one L1 page. Each line is one lookup.
 use io::print_decimal;
 use io::print_hex;
 use io::write_all;
@@ -184,14 +184,18 @@ fn one_word_short() {
     );
 }
 
-// The fields of L1 entries: a reserved bit in the last field stops every page of its entry and none of the next; and an address whose indices
-// all differ.
+// The fields of L1 entries: a reserved bit stops every page of its entry, whichever field has it, and none of the next; and an address whose
+// indices all differ.
 fn fields(words: &mut [u64; 1024]) {
     words[512] = 0x4000_0000_0000_0002;
     words[513] = 0x2;
+    words[514] = 0x6000_0000_0000_0000;
+    words[515] = 0x2000_0000_0000_0004;
     load(words, 0x4000_0000);
     load(words, 0x4000_F000);
     load(words, 0x4001_0000);
+    load(words, 0x4002_F000);
+    store(words, 0x4003_F000);
     words[512 + 18] = 0x1000;
     fetch(words, 0x4012_3456);
     store(words, 0x4012_3456);

@@ -1,4 +1,5 @@
-//! `mpt cases`: the bench cases of document 01 and those that document 02 adds, each with the paper's own answer.
+//! `mpt cases`: the bench cases of document 01 and the one that item 3 of document 02 adds, with the papers' own answers, and a
+//! few of ours beside the latter.
 
 use crate::answer::{Free, Outcome, Reply};
 use crate::command::parse;
@@ -18,7 +19,7 @@ struct Case {
 /// What is asked, in the language of `mpt run`, and the paper's answer.
 type Step = (&'static str, Paper);
 
-/// An answer of document 01 or 02.
+/// What the papers answer.
 #[derive(Clone, Copy, Debug)]
 enum Paper {
     Call(Answer),
@@ -170,8 +171,8 @@ const CASES: [Case; 12] = [
             ("edit 0 0x42000000 0x1000 rw 1536", all(544)),
         ],
     },
-    // document 02, item 3: "L1 entry 0x4000000000000002, load of its page 0, fault 5"; page 15 has the bit, and the next
-    // entry has none
+    // document 02, item 3: "L1 entry 0x4000000000000002, load of its page 0, fault 5". Our own beside it: its page 15, which
+    // has the bit; page 0 of an entry without one; page 15 with the bit and rw; page 15 with the bit in field 0
     Case {
         name: "V",
         pages: 16,
@@ -179,9 +180,13 @@ const CASES: [Case; 12] = [
             ("poke 32 0x0000400000080001", Paper::Done),
             ("poke 512 0x4000000000000002", Paper::Done),
             ("poke 513 0x0000000000000002", Paper::Done),
+            ("poke 514 0x6000000000000000", Paper::Done),
+            ("poke 515 0x2000000000000004", Paper::Done),
             ("look load 0x40000000", fault(Cause::Load)),
             ("look load 0x4000F000", fault(Cause::Load)),
             ("look load 0x40010000", ALLOWED),
+            ("look load 0x4002F000", fault(Cause::Load)),
+            ("look store 0x4003F000", fault(Cause::Store)),
             ("close 0", refused(Refusal::NotSound)),
         ],
     },
@@ -204,7 +209,7 @@ pub fn main(mut options: Options) -> Result<u8, String> {
         }
     }
     match wrong {
-        0 => output::line("every answer is that of documents 01 and 02"),
+        0 => output::line("every answer is that of the papers"),
         _ => output::line(format!("{wrong} answers differ")),
     }
     Ok(u8::from(wrong > 0))

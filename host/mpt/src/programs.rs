@@ -2,7 +2,7 @@
 
 use mpt_monitor::{Address, Answer, Interface, Monitor, Reading, Register, Sdid, Verdict, View, ViewMut, Writing};
 
-/// One implementation of document 01.
+/// One implementation of the papers.
 #[derive(Clone, Copy)]
 pub struct Program {
     pub name: &'static str,

@@ -62,6 +62,7 @@ impl Used {
 /// The fields of a register.
 pub const PPN: u64 = (1 << 44) - 1;
 pub const WPRI: u64 = 0x3FF << 44;
+
 /// The two reserved bits of each of an L1 entry's 16 fields.
 pub const RESERVED: u64 = 0xCCCC_CCCC_CCCC_CCCC;
 

@@ -1,5 +1,5 @@
-//! Document 01 in ordinary safe Rust over words, written for speed: the yardstick beside which the
-//! proved monitor is measured, and a third opinion in tests.
+//! Document 01, with item 3 of document 02, in ordinary safe Rust over words, written for speed: the
+//! yardstick beside which the proved monitor is measured, and a third opinion in tests.
 //!
 //! The calls take any numbers, as those of the C interface in `include/mpt.h` do, and answer values.
 #![forbid(unsafe_code)]

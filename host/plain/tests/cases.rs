@@ -1,4 +1,4 @@
-//! Bench cases of documents 01 and 02 by the codes of the C interface, and the edges of the codes.
+//! Bench cases of document 01, and of item 3 of document 02, by the codes of the C interface, and the edges of the codes.
 
 use plain::{Asked, Edited, Fence, Frame, Looked};
 
@@ -87,9 +87,13 @@ fn case_v() {
     state.0[32] = 0x0000_4000_0008_0001;
     state.0[512] = 0x4000_0000_0000_0002;
     state.0[513] = 0x0000_0000_0000_0002;
+    state.0[514] = 0x6000_0000_0000_0000;
+    state.0[515] = 0x2000_0000_0000_0004;
     assert_eq!(look(&state, LOAD, 0x4000_0000), Looked::Fault(5));
     assert_eq!(look(&state, LOAD, 0x4000_F000), Looked::Fault(5));
     assert_eq!(look(&state, LOAD, 0x4001_0000), Looked::Allowed);
+    assert_eq!(look(&state, LOAD, 0x4002_F000), Looked::Fault(5));
+    assert_eq!(look(&state, STORE, 0x4003_F000), Looked::Fault(7));
 }
 
 #[test]

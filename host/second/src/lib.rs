@@ -1,5 +1,5 @@
-//! Documents 01 and 02 again, written from the papers alone and sharing nothing with the proved
-//! monitor.
+//! Document 01, with item 3 of document 02, again: written from the papers alone and sharing nothing
+//! with the proved monitor.
 //!
 //! The way of thinking here is by maps: a domain is a permission for each page. An edit decodes
 //! the GiBs it touches to such a map, changes the map, works out the finished form of the map, and
@@ -27,7 +27,7 @@ pub use edit::{edit, store_list, Asked, Edited, Fence, Store};
 pub use frame::{Frame, Register};
 pub use map::{block_map, gib_map};
 pub use sound::{free_pages, sound, used_pages};
-pub use walk::{fields, lookup, permission_at, Access, Looked, Original, Privilege, Role, L2};
+pub use walk::{l1_permissions, lookup, permission_at, Access, Looked, Original, Privilege, Role, L2};
 
 /// A permission as the paper numbers it: 0 none, 1 rx, 2 rw, 3 rwx.
 pub type Permission = u8;

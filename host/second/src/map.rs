@@ -1,7 +1,7 @@
 //! The permissions of a GiB page by page, and the finished form that such a map has.
 
 use crate::frame::Frame;
-use crate::walk::{fields, L2};
+use crate::walk::{l1_permissions, L2};
 use crate::Permission;
 
 /// Pages in a piece of 2 MiB, a block of 32 MiB, and a GiB.
@@ -52,7 +52,7 @@ fn push_block(frame: Frame, words: &[u64], entry: u64, map: &mut Vec<Permission>
 }
 
 fn push_fields(map: &mut Vec<Permission>, entry: u64) {
-    map.extend(fields(entry).expect("a sound table has no reserved bit set"));
+    map.extend(l1_permissions(entry).expect("a sound table has no reserved bit set"));
 }
 
 /// "a GiB of one permission is 32 entries of that 1G type; otherwise a block whose 2 MiB pieces

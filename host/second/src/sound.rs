@@ -1,7 +1,7 @@
 //! The sound table, and which of its pages are free.
 
 use crate::frame::{Frame, Register};
-use crate::walk::{fields, L2};
+use crate::walk::{l1_permissions, L2};
 use crate::Slots;
 
 /// The registers of the open slots.
@@ -45,7 +45,7 @@ pub fn free_pages(frame: Frame, words: &[u64], used: &[u64]) -> Vec<u64> {
 }
 
 fn reserved_clear(page: &[u64]) -> bool {
-    page.iter().all(|&entry| entry == 0 || fields(entry).is_some())
+    page.iter().all(|&entry| entry == 0 || l1_permissions(entry).is_some())
 }
 
 fn distinct(numbers: &[u64]) -> bool {

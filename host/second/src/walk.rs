@@ -130,7 +130,7 @@ fn pieces(info: u64) -> [Permission; 16] {
 
 /// The permissions of an L1 entry's 16 pages, lowest first; nothing where one of them has a
 /// reserved bit set. "Now a reserved bit set in any of its 16 fields faults the access." (Document 02.)
-pub fn fields(entry: u64) -> Option<[Permission; 16]> {
+pub fn l1_permissions(entry: u64) -> Option<[Permission; 16]> {
     let four: [u64; 16] = std::array::from_fn(|n| bits(entry, 4 * n as u32 + 3, 4 * n as u32));
     let reserved = four.iter().any(|&field| bits(field, 3, 2) != 0);
     (!reserved).then(|| four.map(|field| bits(field, 1, 0) as Permission))
@@ -145,7 +145,7 @@ pub fn permission_at(frame: Frame, words: &[u64], root: u64, address: u64) -> Op
     match L2::from_word(frame.page(words, root)?[pn[2] as usize])? {
         L2::Whole(permission) => Some(permission),
         L2::Pieces(each) => Some(each[bits(address, 24, 21) as usize]),
-        L2::Pages(page) => Some(fields(frame.page(words, page)?[pn[1] as usize])?[pn[0] as usize]),
+        L2::Pages(page) => Some(l1_permissions(frame.page(words, page)?[pn[1] as usize])?[pn[0] as usize]),
     }
 }
 

@@ -1,4 +1,5 @@
-//! The bench cases of documents 01 and 02, asked of the second program. Every number is the paper's.
+//! The bench cases of document 01, and of item 3 of document 02, asked of the second program. Every number of a case is the
+//! paper's, or follows from its text by hand.
 
 use second::*;
 
@@ -141,8 +142,6 @@ fn case_k_freed_pages_are_free_for_the_next_call() {
     assert!(bench.edit(RW, 0x4200_0000, 0x1000, 1536).is_ok());
 }
 
-/// "New pages are the lowest pages free before the edit": a page that a cut edit unlinked is free
-/// before its retry. So a retry may end in another page than the uncut edit, with as many free.
 /// Document 02, item 3: "L1 entry 0x4000000000000002, load of its page 0, fault 5".
 #[test]
 fn case_v_a_reserved_bit_in_another_field() {
@@ -150,9 +149,13 @@ fn case_v_a_reserved_bit_in_another_field() {
     bench.words[32] = 0x0000_4000_0008_0001;
     bench.words[512] = 0x4000_0000_0000_0002;
     bench.words[513] = 0x0000_0000_0000_0002;
+    bench.words[514] = 0x6000_0000_0000_0000;
+    bench.words[515] = 0x2000_0000_0000_0004;
     assert_eq!(bench.load(0x4000_0000), Looked::Fault(5));
-    assert_eq!(bench.load(0x4000_F000), Looked::Fault(5));
-    assert_eq!(bench.load(0x4001_0000), Looked::Allowed, "the next entry has none");
+    assert_eq!(bench.load(0x4000_F000), Looked::Fault(5), "the field has the bit, and says none");
+    assert_eq!(bench.load(0x4001_0000), Looked::Allowed, "this entry has none");
+    assert_eq!(bench.load(0x4002_F000), Looked::Fault(5), "the field has the bit, and says rw");
+    assert_eq!(bench.look(Original::Store, Role::Itself, 0x4003_F000), Looked::Fault(7), "field 0 has it");
     bench.words[512] = 0x1000_0000_0000_0002;
     assert_eq!(bench.load(0x4000_0000), Looked::Allowed);
 }
@@ -169,6 +172,8 @@ fn a_reserved_bit_anywhere_stops_every_page_of_its_entry() {
     }
 }
 
+/// "New pages are the lowest pages free before the edit": a page that a cut edit unlinked is free
+/// before its retry. So a retry may end in another page than the uncut edit, with as many free.
 #[test]
 fn a_retry_may_take_the_page_that_the_cut_edit_unlinked() {
     let edit = |bench: &mut Bench, limit| bench.edit(RW, 0x4000_0000, 0x400_1000, limit).unwrap();

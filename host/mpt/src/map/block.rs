@@ -51,7 +51,7 @@ impl Form {
             Some(L2::Pieces(_)) => Form::Pieces,
             Some(L2::Pages(page)) => match frame.page(words, page) {
                 Some(entries) => {
-                    Form::Pages { page, reserved: entries.iter().any(|&entry| second::fields(entry).is_none()) }
+                    Form::Pages { page, reserved: entries.iter().any(|&entry| second::l1_permissions(entry).is_none()) }
                 }
                 None => Form::Bad,
             },

@@ -3,7 +3,7 @@
 
 use super::bounds::{AddressBound, FrameBound, RangeBound};
 use super::forms::Change;
-use super::reserved::Load;
+use super::reserved::Met;
 use super::rules::Rule;
 use super::segments::Segment;
 use super::sweep::Target;
@@ -25,8 +25,8 @@ pub enum Class {
     Cut(Segment),
     /// An entry, a register or an address that differs from a good one in this bit.
     Bit(Target, u8),
-    /// A load on which one reserved bit decides.
-    Reserved(Load),
+    /// An access where reserved bits of an L1 entry are set, and the right answer.
+    Reserved(Met),
     /// A table that is not sound by this rule alone.
     Unsound(Rule),
     /// A sound table: its PAW, its open slots, its pages in use and free, each by a range of numbers.
@@ -115,7 +115,7 @@ impl Class {
         all.extend(RangeBound::all().map(Class::Range));
         all.extend(Rule::ALL.map(Class::Unsound));
         all.extend(Target::ALL.into_iter().flat_map(|target| (0..64).map(move |bit| Class::Bit(target, bit))));
-        all.extend(Load::all().map(Class::Reserved));
+        all.extend(Met::all().map(Class::Reserved));
         all.extend(Change::all().map(Class::Block));
         all.extend(Segment::all().map(Class::Cut));
         all
@@ -126,6 +126,7 @@ impl Class {
         let own = |row: &str, column: String| (row.to_string(), column);
         let (table, (row, column)) = match self {
             Class::Answer(asked, given) => return given.place(asked),
+            Class::Reserved(met) => return met.place(),
             Class::Outside(what) => ("answers", own("outside its kind", what.to_string())),
             Class::Frame(bound) => ("frames", bound.place()),
             Class::Paw(paw) => ("sound tables", own("PAW", paw.to_string())),
@@ -140,7 +141,6 @@ impl Class {
                 let quarter = bit / 16 * 16;
                 ("one bit changed", own(target.name(), format!("bits {quarter}-{}", quarter + 15)))
             }
-            Class::Reserved(load) => ("one reserved bit of an L1 entry decides on a load of", load.place()),
             Class::Block(change) => ("blocks before and after an edit", change.place()),
             Class::Cut(segment) => ("cuts, between the last store made and the next", segment.place()),
         };

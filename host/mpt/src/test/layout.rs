@@ -7,7 +7,7 @@ use std::ops::Range;
 pub const INFO: u64 = (1 << 44) - 1;
 /// The permission bits of an L1 entry's 16 fields.
 pub const FIELDS: u64 = 0x3333_3333_3333_3333;
-/// Its reserved bits.
+/// The reserved bits of these fields.
 pub const RESERVED: u64 = !FIELDS;
 
 /// An L2 entry of TYPE 0 to 3.

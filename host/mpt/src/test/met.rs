@@ -3,11 +3,11 @@
 use super::bounds::{AddressBound, FrameBound, RangeBound};
 use super::class::{Asked, Class};
 use super::layout::within_bounds;
-use super::reserved::Load;
+use super::reserved::Met;
 use super::rules::broken_alone;
 use crate::answer::Reply;
 use crate::command::Command;
-use mpt_monitor::{Access, Answer, Kind, Privilege, Table};
+use mpt_monitor::{Answer, Privilege, Table};
 
 pub fn frame(table: &Table) -> Vec<Class> {
     FrameBound::of(table.frame(), table.words().len()).into_iter().map(Class::Frame).collect()
@@ -30,13 +30,12 @@ fn further(table: &Table, command: &Command, answer: Answer) -> Vec<Class> {
     let (frame, count) = (table.frame(), table.words().len());
     let range = |edit| RangeBound::of(frame, count, edit).into_iter().map(Class::Range).collect();
     match (command, answer) {
-        (Command::Lookup { privilege, register, kind, address }, Answer::Looked(_))
+        (Command::Lookup { privilege, register, kind, address }, Answer::Looked(verdict))
             if *privilege != Privilege::Machine && register.mode() == 1 =>
         {
-            let is_load = *kind == Kind::Itself(Access::Load);
-            let load = is_load.then(|| Load::of(table, *register, address.0)).flatten();
             let bounds = AddressBound::of(frame, count, address.0).into_iter().map(Class::Address);
-            bounds.chain(load.map(Class::Reserved)).collect()
+            let reserved = Met::of(table, *register, *kind, address.0, verdict).into_iter().map(Class::Reserved);
+            bounds.chain(reserved).collect()
         }
         (Command::Edit(edit), Answer::Edited(_)) => range(*edit),
         // what is refused for its range or for room had all else right

@@ -1,101 +1,145 @@
-//! One reserved bit of an L1 entry, in each of its 32 places: "a reserved bit set in any of its 16 fields faults the
-//! access" (document 02, item 3), and no access that reads another entry.
+//! Reserved bits of L1 entries: "a reserved bit set in any of its 16 fields faults the access" (document 02, item 3), and no
+//! access that reads another entry.
 
-use super::aim::Walk;
-use super::layout::{blocks, entries, linked, within_bounds, words_of, RESERVED};
-use crate::command::Command;
+use super::aim::walk_to;
+use super::layout::{blocks, entries, linked, within_bounds, words_of, FIELDS, RESERVED};
+use super::trial::{Failure, Trial};
+use crate::command::{Command, KINDS};
 use crate::random::Random;
-use mpt_monitor::{Access, Address, Kind, Privilege, Register, Table, PAGE_WORDS};
+use mpt_monitor::{Address, Cause, Kind, Privilege, Register, Table, Verdict, PAGE_WORDS};
 
-/// A load on which one reserved bit decides, by the bit and by the page that is loaded from. All else allows it.
+/// An access to a page that its field opens to every kind of access, answered as the reserved bits ask: a fault where one
+/// is set in the entry that is read, whatever field has it, and none where only the entry before or after has one.
 #[derive(Clone, Copy, Debug, PartialEq, Eq, PartialOrd, Ord)]
-pub struct Load {
-    bit: u8,
-    page: Page,
+pub enum Met {
+    /// One bit is set, in this place.
+    Bit(u8, Page),
+    /// One bit is set, and the access is of this kind, by its code.
+    Kind(u8, Page),
+    /// Several bits are set.
+    Several(Page),
 }
 
+/// Whose page it is.
 #[derive(Clone, Copy, Debug, PartialEq, Eq, PartialOrd, Ord)]
-enum Page {
-    /// Of the field that has the bit.
+pub enum Page {
+    /// Of a field that has a bit.
     Own,
-    /// Of another field of the entry.
+    /// Of a field that has none, in an entry that has one.
     Beside,
-    /// Of the entry before or after: here the bit does not count.
-    Next,
+    /// Of an entry that has none, before or after one that has.
+    Neighbour,
 }
 
 const PAGES: [(Page, &str); 3] = [
-    (Page::Own, "the page of its field"),
-    (Page::Beside, "another page of its entry"),
-    (Page::Next, "a page of the entry before or after"),
+    (Page::Own, "the page of a field with such a bit"),
+    (Page::Beside, "another page of the entry"),
+    (Page::Neighbour, "a page of the entry before or after"),
 ];
 
-impl Load {
-    pub fn all() -> impl Iterator<Item = Load> {
+impl Met {
+    pub fn all() -> impl Iterator<Item = Met> {
+        let pages = || PAGES.iter().map(|(page, _)| *page);
         let places = (0..64).filter(|bit| RESERVED >> bit & 1 == 1);
-        places.flat_map(|bit| PAGES.map(|(page, _)| Load { bit, page }))
+        let bits = places.flat_map(move |bit| pages().map(move |page| Met::Bit(bit, page)));
+        let kinds = (0..9).flat_map(move |kind| pages().map(move |page| Met::Kind(kind, page)));
+        bits.chain(kinds).chain(pages().map(Met::Several))
     }
 
-    /// What a load by a register is, if it is such a load.
-    pub fn of(table: &Table, register: Register, address: u64) -> Option<Load> {
-        if !within_bounds(table) || address >> 25 >= blocks(table) as u64 {
-            return None;
+    /// What an access is, if it is such a one; outside M mode, by a register of MODE 1.
+    pub fn of(table: &Table, register: Register, kind: Kind, address: u64, verdict: Verdict) -> Vec<Met> {
+        let (page, bits) = match page_and_bits(table, register, address) {
+            Some(found) if verdict == answer(found.0, kind) => found,
+            _ => return Vec::new(),
+        };
+        match bits.is_power_of_two() {
+            true => vec![Met::Bit(bits.trailing_zeros() as u8, page), Met::Kind(kind.code() as u8, page)],
+            false => vec![Met::Several(page)],
         }
-        let page = words_of(table, linked(entries(table, register)?[(address >> 25) as usize])?)?;
-        let (entry, field) = ((address >> 16) as usize % PAGE_WORDS, address >> 12 & 15);
-        let word = table.words()[page.start + entry];
-        let bit = |word: u64| (word & RESERVED).trailing_zeros() as u8;
-        let has_one = |word: &u64| (word & RESERVED).is_power_of_two();
-        let neighbours = || {
-            let beside = [entry.checked_sub(1), Some(entry + 1).filter(|next| *next < PAGE_WORDS)];
-            beside.into_iter().flatten().map(|next| table.words()[page.start + next]).find(has_one)
-        };
-        let load = match word {
-            _ if word >> (4 * field) & 3 == 0 => None,
-            _ if word & RESERVED == 0 => neighbours().map(|next| Load { bit: bit(next), page: Page::Next }),
-            _ if !has_one(&word) => None,
-            _ if u64::from(bit(word)) / 4 == field => Some(Load { bit: bit(word), page: Page::Own }),
-            _ => Some(Load { bit: bit(word), page: Page::Beside }),
-        };
-        load
     }
 
-    pub fn place(self) -> (String, String) {
-        let first = self.bit / 16 * 4;
-        (PAGES[self.page as usize].1.to_string(), format!("fields {first}-{}", first + 3))
+    /// The table of the summary, the row and the column.
+    pub fn place(self) -> (&'static str, String, String) {
+        let (page, column) = match self {
+            Met::Bit(bit, page) => (page, format!("fields {}-{}", bit / 16 * 4, bit / 16 * 4 + 3)),
+            Met::Kind(kind, page) => (page, KINDS[usize::from(kind)].to_string()),
+            Met::Several(page) => (page, "several bits".to_string()),
+        };
+        let table = match self {
+            Met::Bit(..) => "one reserved bit of an L1 entry, by its field, and",
+            Met::Kind(..) | Met::Several(_) => "reserved bits of an L1 entry, by the kind of access, and",
+        };
+        (table, PAGES[page as usize].1.to_string(), column)
     }
 }
 
-/// Loads of three pages that a bit of an L1 entry is about, as far as there are such that may be read: of its own field,
-/// of another, and of the entry before or after. `walk` is the walk that reads the entry, which is word `index`.
-pub fn loads(random: &mut Random, table: &Table, walk: Walk, index: usize, bit: u64) -> Vec<Command> {
-    let own = bit / 4;
-    let open = |index: usize| (0..16u64).filter(move |field| table.words()[index] >> (4 * field) & 3 != 0);
-    let at = |entry: usize, field: u64| walk.address >> 25 << 25 | (entry as u64) << 16 | field << 12;
-    let (entry, start) = (index % PAGE_WORDS, index / PAGE_WORDS * PAGE_WORDS);
-    let next = random.pick(&[entry.wrapping_sub(1), entry + 1]);
-    let choices: [Vec<u64>; 3] = [
-        vec![at(entry, own)],
-        open(index).filter(|field| *field != own).map(|field| at(entry, field)).collect(),
-        match next < PAGE_WORDS {
-            true => open(start + next).map(|field| at(next, field)).collect(),
-            false => Vec::new(),
-        },
-    ];
-    let load = |address: u64| Command::Lookup {
-        register: walk.register,
-        privilege: Privilege::Supervisor,
-        kind: Kind::Itself(Access::Load),
-        address: Address(address),
+fn answer(page: Page, kind: Kind) -> Verdict {
+    match page {
+        Page::Own | Page::Beside => Verdict::Fault(Cause::ALL[kind.code() as usize % 3]),
+        Page::Neighbour => Verdict::Allowed,
+    }
+}
+
+/// Whose page an address is, and the reserved bits of that entry; nothing if none is set or the page's field is not rwx.
+fn page_and_bits(table: &Table, register: Register, address: u64) -> Option<(Page, u64)> {
+    if !within_bounds(table) || address >> 25 >= blocks(table) as u64 {
+        return None;
+    }
+    let at = words_of(table, linked(entries(table, register)?[(address >> 25) as usize])?)?;
+    let page = &table.words()[at];
+    let (entry, shift) = ((address >> 16) as usize % PAGE_WORDS, (address >> 12 & 15) * 4);
+    let bits = |entry: Option<usize>| entry.and_then(|entry| page.get(entry)).map_or(0, |word| word & RESERVED);
+    let (before, own, after) = (bits(entry.checked_sub(1)), bits(Some(entry)), bits(Some(entry + 1)));
+    match page[entry] >> shift & 3 {
+        3 if own >> shift & 15 != 0 => Some((Page::Own, own)),
+        3 if own != 0 => Some((Page::Beside, own)),
+        3 if before != 0 => Some((Page::Neighbour, before)),
+        3 if after != 0 => Some((Page::Neighbour, after)),
+        _ => None,
+    }
+}
+
+/// How often several bits are set in an entry, after each by itself.
+const SEVERAL: usize = 16;
+
+/// Reserved bits in an L1 entry of a sound table, word `index`: each of the 32 in turn, then several; of each three accesses,
+/// one to a page of each kind. Nothing is left of it.
+pub fn sweep(trial: &mut Trial, random: &mut Random, index: usize) -> Result<(), Failure> {
+    let walk = match walk_to(trial.table(), index) {
+        Some(walk) if walk.in_l1 => walk,
+        _ => return Ok(()),
     };
-    choices.iter().filter(|all| !all.is_empty()).map(|all| load(random.pick(all))).collect()
+    let neighbour = if index % PAGE_WORDS == 0 { index + 1 } else { index - 1 };
+    let kept = [index, neighbour].map(|index| (index, trial.table().words()[index]));
+    let single = (0..64).map(|bit| 1 << bit).filter(|bit| RESERVED & bit != 0);
+    // two to five of them, so that a field without one is left
+    let place = |random: &mut Random| 1 << (4 * random.below(16) + random.pick(&[2, 3]));
+    let some = |random: &mut Random| (0..2 + random.below(4)).fold(0, |bits, _| bits | place(random));
+    let several: Vec<u64> = (0..SEVERAL).map(|_| some(random)).collect();
+    for bits in single.chain(several) {
+        let own = u64::from(bits.trailing_zeros()) / 4;
+        let beside = random.pick(&(0..16).filter(|field| bits >> (4 * field) & 15 == 0).collect::<Vec<u64>>()[..]);
+        let open = |random: &mut Random, fields: [u64; 2]| {
+            random.next() & FIELDS | 3 << (4 * fields[0]) | 3 << (4 * fields[1])
+        };
+        let words = [open(random, [own, beside]) | bits, open(random, [own, beside])];
+        for ((index, _), word) in kept.iter().zip(words) {
+            trial.obey(Command::Poke { index: *index, word })?;
+        }
+        for (index, field) in [(index, own), (index, beside), (neighbour, random.pick(&[own, beside]))] {
+            let address = walk.address >> 25 << 25 | (index as u64 % 512) << 16 | field << 12 | random.below(4096);
+            let (privilege, kind) = (random.pick(&Privilege::ALL[..2]), super::generate::kind(random));
+            trial.obey(Command::Lookup { register: walk.register, privilege, kind, address: Address(address) })?;
+        }
+    }
+    kept.iter().try_for_each(|&(index, word)| trial.obey(Command::Poke { index, word }).map(drop))
 }
 
 #[cfg(test)]
 mod tests {
-    use super::super::aim::walk_to;
     use super::*;
-    use mpt_monitor::{Frame, PageNumber};
+    use crate::programs::{all, SECOND};
+    use mpt_monitor::{Access, Frame, PageNumber};
 
     const REGISTER: Register = Register(0x1140_0000_0008_0000);
 
@@ -109,34 +153,41 @@ mod tests {
     }
 
     #[test]
-    fn a_load_is_told_by_the_bit_and_its_page() {
-        let table = table(&[0x4000_0000_0000_0002, 0x2, 0x9, 0x1_0044]);
-        let of = |address| Load::of(&table, REGISTER, address).map(|Load { bit, page }| (bit, page));
-        assert_eq!(of(0x4000_0000), Some((62, Page::Beside)));
-        assert_eq!(of(0x4000_F000), None, "its own field has no permission: it faults anyhow");
-        assert_eq!(of(0x4001_0000), Some((62, Page::Next)), "the entry before has it");
-        assert_eq!(of(0x4002_0000), Some((3, Page::Own)));
-        assert_eq!(of(0x4003_4000), None, "two are set");
-        assert_eq!((of(0x4200_0000), of(0x1_4000_0000)), (None, None), "no L1 page, and past the last block");
-        assert_eq!(Load::all().count(), 96);
+    fn an_access_is_told_by_the_bits_its_page_and_its_answer() {
+        let table = table(&[0x4000_0000_0000_0003, 0x3, 0x0, 0xB, 0x3000_0000_0000_0044, 0x2000_0000_0000_0004]);
+        let store = Kind::Itself(Access::Store);
+        let of = |address, verdict| Met::of(&table, REGISTER, store, address, verdict);
+        let (fault, allowed) = (Verdict::Fault(Cause::Store), Verdict::Allowed);
+        assert_eq!(of(0x4000_0000, fault), [Met::Bit(62, Page::Beside), Met::Kind(2, Page::Beside)]);
+        assert_eq!(of(0x4000_0000, allowed), [], "a wrong answer counts for nothing");
+        assert_eq!(of(0x4000_0000, Verdict::Fault(Cause::Load)), []);
+        assert_eq!(of(0x4000_F000, fault), [], "its field says none, so that it faults anyhow");
+        assert_eq!(of(0x4001_0000, allowed), [Met::Bit(62, Page::Neighbour), Met::Kind(2, Page::Neighbour)]);
+        assert_eq!(of(0x4001_0000, fault), []);
+        assert_eq!(of(0x4003_0000, fault), [Met::Bit(3, Page::Own), Met::Kind(2, Page::Own)]);
+        assert_eq!(of(0x4004_F000, fault), [Met::Several(Page::Beside)]);
+        assert_eq!(of(0x4005_F000, fault), [], "rw, so that not every kind is open");
+        assert_eq!(
+            (of(0x4200_0000, fault), of(0x1_4000_0000, fault)),
+            (vec![], vec![]),
+            "no L1 page, past the last block"
+        );
     }
 
     #[test]
-    fn the_three_pages_of_a_bit_are_loaded_from() {
-        let table = table(&[0x6000_0000_0000_0002, 0x10]);
-        let walk = walk_to(&table, 512).unwrap();
+    fn a_sweep_meets_every_class_but_for_chance_and_leaves_nothing() {
+        let mut trial = Trial::new(&all());
+        trial.start(table(&[0x2, 0x1]));
+        let before = trial.table().clone();
+        assert!(SECOND.monitor().sound(&before).is_ok());
         let mut random = Random::new(1, 0);
-        let mut met: Vec<Load> = Vec::new();
-        for _ in 0..20 {
-            for load in loads(&mut random, &table, walk, 512, 62) {
-                match load {
-                    Command::Lookup { register, address, .. } => met.extend(Load::of(&table, register, address.0)),
-                    other => panic!("{other:?}"),
-                }
-            }
+        for index in [512, 513, 1023, 700] {
+            sweep(&mut trial, &mut random, index).unwrap();
         }
-        met.sort();
-        met.dedup();
-        assert_eq!(met, PAGES.map(|(page, _)| Load { bit: 62, page }));
+        assert_eq!(*trial.table(), before);
+        let missing: Vec<Met> =
+            Met::all().filter(|met| trial.tally.times(super::super::class::Class::Reserved(*met)) == 0).collect();
+        assert_eq!(missing, []);
+        assert_eq!(Met::all().count(), 126);
     }
 }

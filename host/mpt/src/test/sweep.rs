@@ -5,7 +5,7 @@ use super::aim::{self, walk_to};
 use super::class::Class;
 use super::layout::{blocks, open, pages, words_of};
 use super::reading::used_pages;
-use super::reserved::loads;
+use super::reserved;
 use super::trial::{Failure, Trial};
 use crate::command::Command;
 use crate::random::Random;
@@ -108,17 +108,16 @@ fn word(trial: &mut Trial, random: &mut Random, target: Target, index: usize) ->
             for _ in 0..2 {
                 trial.obey(aim::lookup(random, walk, bit))?;
             }
-            if walk.in_l1 {
-                for load in loads(random, trial.table(), walk, index, bit) {
-                    trial.obey(load)?;
-                }
-            }
         }
         let harmless = aim::harmless(random, trial.table());
         trial.obey(harmless)?;
         trial.tally.note(Class::Bit(target, bit as u8));
     }
-    trial.obey(Command::Poke { index, word: good }).map(drop)
+    trial.obey(Command::Poke { index, word: good })?;
+    match target {
+        Target::L1 => reserved::sweep(trial, random, index),
+        _ => Ok(()),
+    }
 }
 
 /// The register of an open slot.
