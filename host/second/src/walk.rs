@@ -131,9 +131,9 @@ fn pieces(info: u64) -> [Permission; 16] {
 /// The permissions of an L1 entry's 16 pages, lowest first; nothing where one of them has a
 /// reserved bit set. "Now a reserved bit set in any of its 16 fields faults the access." (Document 02.)
 pub fn l1_permissions(entry: u64) -> Option<[Permission; 16]> {
-    let four: [u64; 16] = std::array::from_fn(|n| bits(entry, 4 * n as u32 + 3, 4 * n as u32));
-    let reserved = four.iter().any(|&field| bits(field, 3, 2) != 0);
-    (!reserved).then(|| four.map(|field| bits(field, 1, 0) as Permission))
+    let field = |number: u32| bits(entry, 4 * number + 3, 4 * number);
+    let reserved = (0..16).any(|number| bits(field(number), 3, 2) != 0);
+    (!reserved).then(|| std::array::from_fn(|number| bits(field(number as u32), 1, 0) as Permission))
 }
 
 /// The walk: the permission at an address, or nothing where it faults.
