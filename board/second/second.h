@@ -1,5 +1,6 @@
 /* Document 01, with item 3 of document 02, once more, in C and from the papers alone: how addresses read, which pages are free, and which
- * stores a call makes, in their order. What the library does on the board is compared with it. For sound tables; refusals are not here. */
+ * stores a call makes, in their order. What the library does on the board is compared with it. For sound tables, and for L1 entries with
+ * reserved bits; refusals are not here. */
 #include <stddef.h>
 #include <stdint.h>
 

@@ -1,5 +1,5 @@
-/* The bench cases of document 01, A to K, and V of document 02, item 3, by the library alone. One line for each answer; the expected ones are
- * the papers' own numbers, or follow from their text by hand. `bench_cases` returns how many were wrong. */
+/* The bench cases of document 01, A to K, and V, as crates/cases names that of document 02, item 3, by the library alone. One line for each
+ * answer; the expected ones are the papers' own numbers, or follow from their text by hand. `bench_cases` returns how many were wrong. */
 #include "mpt.h"
 #include "say.h"
 #include "second.h"

@@ -1,4 +1,4 @@
-/* Cases A, C, E and F of document 01, V of document 02, item 3, arguments outside their kind, the parts of answers, cut edits and the slots
+/* Cases A, C, E and F of document 01, V for item 3 of document 02, arguments outside their kind, the parts of answers, cut edits and the slots
  * after them, written against mpt.h alone. Every number is the papers', or follows from them by hand. Exit status 0 if all answers are right. */
 #include "mpt.h"
 

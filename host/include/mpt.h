@@ -45,7 +45,8 @@
 
 /* The interface's version: the major number grows when a caller must change, the minor one when
  * something is added. It numbers calls, arguments and answers, and not the rules of the tables: which
- * requests of document 02 a library has, docs/changes of its source tells. mpt_version says the library's. */
+ * requests of document 02 a library has, docs/changes of its source tells. mpt_version says the
+ * library's version. */
 #define MPT_VERSION_MAJOR 2
 #define MPT_VERSION_MINOR 0
 #define MPT_VERSION ((UINT64_C(1) << 16) * MPT_VERSION_MAJOR + MPT_VERSION_MINOR)
@@ -173,8 +174,10 @@ MPT_MUST_USE uint64_t mpt_version(void);
 
 /* May an access of this kind, at this privilege, reach this one address under this register?
  *
- * To ask of a slot, use mpt_lookup_slot. The table need not be sound: an entry that breaks the rules
- * faults, and an L1 entry with a reserved bit set in any of its 16 fields faults for all its pages.
+ * To ask of a slot, use mpt_lookup_slot. Outside M mode and Bare it reads one L2 entry and at most one
+ * L1 entry, and faults where the L2 entry breaks its rules, where a page to be read is not lent, or
+ * where a reserved bit is set in any of the L1 entry's 16 fields. It is no check of the table: that a
+ * page is named twice, say, mpt_sound alone sees.
  *
  *   mmpt       the register's value; any value. 0 is Bare, which allows every access: right for a
  *              register that holds 0, and wrong for an empty slot, which holds 0 too

@@ -39,8 +39,10 @@ impl<I: Interface> Monitor<I> {
 
     /// May an access of this kind reach the address under this register? Zero is Bare, which allows every access:
     /// right for a register that holds zero, and wrong for an empty slot, which holds zero too. Of a slot ask
-    /// [`lookup_slot`](Self::lookup_slot). The table need not be sound: an entry that breaks the rules faults, and an
-    /// L1 entry with a reserved bit set in any of its 16 fields faults for all its pages.
+    /// [`lookup_slot`](Self::lookup_slot). Outside M mode and Bare it reads one L2 entry and at most one L1 entry, and
+    /// faults where the L2 entry breaks its rules, where a page to be read is not lent, or where a reserved bit is set
+    /// in any of the L1 entry's 16 fields. It is no check of the table: that a page is named twice, say,
+    /// [`sound`](Self::sound) alone sees.
     #[inline]
     pub fn lookup(
         &self,

@@ -209,7 +209,7 @@ pub fn main(mut options: Options) -> Result<u8, String> {
         }
     }
     match wrong {
-        0 => output::line("every answer is that of the papers"),
+        0 => output::line("every answer is the papers', or follows from them"),
         _ => output::line(format!("{wrong} answers differ")),
     }
     Ok(u8::from(wrong > 0))

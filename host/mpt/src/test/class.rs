@@ -3,7 +3,7 @@
 
 use super::bounds::{AddressBound, FrameBound, RangeBound};
 use super::forms::Change;
-use super::reserved::Met;
+use super::reserved::Reserved;
 use super::rules::Rule;
 use super::segments::Segment;
 use super::sweep::Target;
@@ -25,8 +25,8 @@ pub enum Class {
     Cut(Segment),
     /// An entry, a register or an address that differs from a good one in this bit.
     Bit(Target, u8),
-    /// An access where reserved bits of an L1 entry are set, and the right answer.
-    Reserved(Met),
+    /// Reserved bits of an L1 entry are set, and an access by it or beside it.
+    Reserved(Reserved),
     /// A table that is not sound by this rule alone.
     Unsound(Rule),
     /// A sound table: its PAW, its open slots, its pages in use and free, each by a range of numbers.
@@ -115,7 +115,7 @@ impl Class {
         all.extend(RangeBound::all().map(Class::Range));
         all.extend(Rule::ALL.map(Class::Unsound));
         all.extend(Target::ALL.into_iter().flat_map(|target| (0..64).map(move |bit| Class::Bit(target, bit))));
-        all.extend(Met::all().map(Class::Reserved));
+        all.extend(Reserved::all().map(Class::Reserved));
         all.extend(Change::all().map(Class::Block));
         all.extend(Segment::all().map(Class::Cut));
         all

@@ -3,7 +3,6 @@
 use super::bounds::{AddressBound, FrameBound, RangeBound};
 use super::class::{Asked, Class};
 use super::layout::within_bounds;
-use super::reserved::Met;
 use super::rules::broken_alone;
 use crate::answer::Reply;
 use crate::command::Command;
@@ -30,12 +29,10 @@ fn further(table: &Table, command: &Command, answer: Answer) -> Vec<Class> {
     let (frame, count) = (table.frame(), table.words().len());
     let range = |edit| RangeBound::of(frame, count, edit).into_iter().map(Class::Range).collect();
     match (command, answer) {
-        (Command::Lookup { privilege, register, kind, address }, Answer::Looked(verdict))
+        (Command::Lookup { privilege, register, address, .. }, Answer::Looked(_))
             if *privilege != Privilege::Machine && register.mode() == 1 =>
         {
-            let bounds = AddressBound::of(frame, count, address.0).into_iter().map(Class::Address);
-            let reserved = Met::of(table, *register, *kind, address.0, verdict).into_iter().map(Class::Reserved);
-            bounds.chain(reserved).collect()
+            AddressBound::of(frame, count, address.0).into_iter().map(Class::Address).collect()
         }
         (Command::Edit(edit), Answer::Edited(_)) => range(*edit),
         // what is refused for its range or for room had all else right
