@@ -176,8 +176,8 @@ MPT_MUST_USE uint64_t mpt_version(void);
  *
  * To ask of a slot, use mpt_lookup_slot. Outside M mode and Bare it reads one L2 entry and at most one
  * L1 entry, and faults where the L2 entry breaks its rules, where a page to be read is not lent, or
- * where a reserved bit is set in any of the L1 entry's 16 fields. It is no check of the table: that a
- * page is named twice, say, mpt_sound alone sees.
+ * where a reserved bit is set in any of the L1 entry's 16 fields. It is no check of the table: it does
+ * not see that a page is named twice, say. mpt_sound does, and so do open, close and edit.
  *
  *   mmpt       the register's value; any value. 0 is Bare, which allows every access: right for a
  *              register that holds 0, and wrong for an empty slot, which holds 0 too

@@ -176,8 +176,8 @@ onePageShort =
 unfoldable pub afterT : Outcome
 afterT = edits bench onePageShort (ask 0x40000000 0x1000 readWrite) most
 
--- V: block 32 by an L1 page that begins with these four entries. A reserved bit is set in field 15, which says none, and field 0 says rw;
--- no reserved bit; in field 15, which says rw; in field 0, and field 15 says rw
+-- V: block 32 by an L1 page that begins with four entries: a reserved bit in field 15, which says none, and rw in field 0; no reserved bit, and rw
+-- in field 0; a reserved bit in field 15, which says rw; a reserved bit in field 0, and rw in field 15
 unfoldable pub reservedBits : Outcome
 reservedBits =
     stands

@@ -41,8 +41,8 @@ impl<I: Interface> Monitor<I> {
     /// right for a register that holds zero, and wrong for an empty slot, which holds zero too. Of a slot ask
     /// [`lookup_slot`](Self::lookup_slot). Outside M mode and Bare it reads one L2 entry and at most one L1 entry, and
     /// faults where the L2 entry breaks its rules, where a page to be read is not lent, or where a reserved bit is set
-    /// in any of the L1 entry's 16 fields. It is no check of the table: that a page is named twice, say,
-    /// [`sound`](Self::sound) alone sees.
+    /// in any of the L1 entry's 16 fields. It is no check of the table: it does not see that a page is named twice,
+    /// say. [`sound`](Self::sound) does, and so do open, close and edit.
     #[inline]
     pub fn lookup(
         &self,
