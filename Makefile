@@ -23,7 +23,7 @@ test:
 	@tools/kit
 	@tools/need cc:gcc cargo python3 perl
 	@tools/derive --check
-	@tools/moved --check
+	@tests/moved/run
 	@tests/order/run
 	@tests/definitions/run --fit
 	@said=$$(mktemp); RT_JOBS=$$((2 * $$(nproc))) rt ci 2>&1 | tee "$$said" || { rm -f "$$said"; exit 1; }; mv "$$said" target/verdict

@@ -97,11 +97,7 @@ pub fn sweep(trial: &mut Trial, random: &mut Random, index: usize) -> Result<(),
         Some(walk) if walk.in_l1 => walk,
         _ => return Ok(()),
     };
-    let page = index / PAGE_WORDS * PAGE_WORDS;
-    let neighbours = [(index.checked_sub(1), Page::Before), (Some(index + 1), Page::After)];
-    let inside = |at: &usize| (page..page + PAGE_WORDS).contains(at);
-    let neighbours: Vec<(usize, Page)> =
-        neighbours.into_iter().filter_map(|(at, page)| Some((at.filter(inside)?, page))).collect();
+    let neighbours = neighbours(index);
     let touched = neighbours.iter().map(|(at, _)| *at).chain([index]);
     let kept: Vec<(usize, u64)> = touched.map(|at| (at, trial.table().words()[at])).collect();
     for &(at, _) in &neighbours {
@@ -126,6 +122,13 @@ pub fn sweep(trial: &mut Trial, random: &mut Random, index: usize) -> Result<(),
         }
     }
     kept.iter().try_for_each(|&(index, word)| trial.obey(Command::Poke { index, word }).map(drop))
+}
+
+/// The entries before and after, of the same L1 page.
+fn neighbours(index: usize) -> Vec<(usize, Page)> {
+    let before = (index % PAGE_WORDS > 0).then(|| (index - 1, Page::Before));
+    let after = (index % PAGE_WORDS < PAGE_WORDS - 1).then(|| (index + 1, Page::After));
+    before.into_iter().chain(after).collect()
 }
 
 /// Each reserved bit by itself; then two to five of them at once, so that a field without one is left.
