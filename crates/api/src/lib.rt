@@ -1,5 +1,6 @@
 // The monitor for C: numbers and slices in, one word out. Nothing here stores through a reference: an edit and an open store into the
 // lent words by `table::store::store_word` alone, and whoever holds the slots puts the register that open answers into its slot.
+use marks::no_marks;
 use monitor::Outcome;
 use table::board::Word;
 use table::board::wide;
@@ -103,8 +104,8 @@ pub extern "C" fn mpt_sound(paw: u64, first: u64, words: &[Word], slots: &[Word;
         first: PageNumber(first),
     };
     let kept = *slots;
-    let mut used = sound::no_pages();
-    match sound::admit(f, words, kept, &mut used) {
+    let mut marks = no_marks();
+    match sound::admit(f, words, kept, &mut marks) {
         Admission::Refused(why) => of_refusal(why),
         Admission::Granted => 0,
     }

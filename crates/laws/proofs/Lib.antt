@@ -12,6 +12,7 @@
 --   Times          how often a number stands in a list; `member`, `distinct` and `each` by it
 --   Sums           sums over a run of numbers and over a list, and what one change does to them
 --   Digits         `digit` and `pack`: what is packed is read back
+--   BinaryDigits   a binary digit taken out, and the lowest that is set
 --   Bytes          the lent memory by bytes: a store changes those of its word and no other
 --   Splices        a number spliced from the digits of two
 --   Peeks          a word of a page, read by way of the page's parts: the same, and quick
@@ -24,6 +25,7 @@ pub mod Lists
 pub mod Times
 pub mod Sums
 pub mod Digits
+pub mod BinaryDigits
 pub mod Bytes
 pub mod Splices
 pub mod Peeks

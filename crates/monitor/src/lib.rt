@@ -3,6 +3,8 @@
 use edit::make;
 use forms::gibs::new_pages;
 pub use lookup::lookup;
+use marks::Marks;
+use marks::no_marks;
 use range::bounds::bad_range;
 use range::bounds::on_lent_pages;
 pub use slots::Outcome;
@@ -11,7 +13,6 @@ use slots::named::not_open;
 pub use slots::open;
 use slots::refused;
 use sound::admit;
-use sound::no_pages;
 use sound::pick::free_pages;
 use table::board::Word;
 use table::register;
@@ -19,7 +20,6 @@ use types::Address;
 use types::Admission;
 use types::Edit;
 use types::Frame;
-use types::Marks;
 use types::Permission;
 use types::Refusal;
 pub use types::Reply;
@@ -38,10 +38,10 @@ fn edit_open(
     words: &mut [Word],
     slots: [Word; 8],
     q: Request,
-    used: &Marks,
+    marks: &Marks,
     limit: u64,
 ) -> Outcome
-    requires { ⌜ InOpenSlot (frameOf f (now words)) (now words) slots (requestOf q) (now used) ⌝ }
+    requires { ⌜ InOpenSlot (frameOf f (now words)) (now words) slots (requestOf q) (now marks) ⌝ }
     ensures { λ r. ⌜ outcomeOf r (now (words .exit)) ≡ calls.editSlot (frameOf f (now (words .entry))) (now (words .entry)) slots (requestOf q) limit ⌝ }
 {
     if bad_range(f, words.len(), q) {
@@ -50,7 +50,7 @@ fn edit_open(
     if on_lent_pages(f, words.len(), q) {
         return refused(Refusal::LentPages, slots);
     }
-    let free = free_pages(f, words.len(), used);
+    let free = free_pages(f, words.len(), marks);
     let at = q.slot as usize;
     let register = slots[at];
     let root = register::ppn(register);
@@ -86,8 +86,8 @@ pub fn edit(
     ensures { λ r. ⌜ outcomeOf r (now (words .exit))
         ≡ calls.editSlot (frameOf f (now (words .entry))) (now (words .entry)) slots (requestFrom slot (start .0) length (permissionNumber permission)) limit ⌝ }
 {
-    let mut used = no_pages();
-    match admit(f, words, slots, &mut used) {
+    let mut marks = no_marks();
+    match admit(f, words, slots, &mut marks) {
         Admission::Refused(why) => refused(why, slots),
         Admission::Granted => {
             if not_open(slots, slot) {
@@ -99,7 +99,7 @@ pub fn edit(
                 size: length,
                 permission: rights::bits(permission),
             };
-            edit_open(f, words, slots, q, &used, limit)
+            edit_open(f, words, slots, q, &marks, limit)
         }
     }
 }

@@ -2,7 +2,7 @@
 use mathlib.Core.Path.{_≡_, refl, sym, ap, _∙_}
 use mathlib.Core.Bool.{Bool, true, false, not, true≢false}
 use mathlib.Core.List.{List, _∷_}
-use Prim.Native.Nat.{ℕ, _≤_}
+use Prim.Native.Nat.{ℕ}
 use native.Mathlib.Omega.{arith}
 use lib.Dec.{eqb}
 use borrow.Author.Tests.{ne-eqb}
@@ -15,9 +15,8 @@ use Rattle.types.specs.declared.Admission.the-variants.{Granted, Refused}
 use Rattle.types.specs.declared.Refusal.{Refusal}
 use Rattle.types.specs.declared.Refusal.the-variants as refusal
 use Rattle.types.specs.Views.{refusalNumber}
-use Rattle.laws.proofs.FrameNumbers.{framed, bounds}
+use Rattle.marks.specs.Marks.{Marks}
 use Rattle.scan.specs.Admission.{admissionOf, AdmissionIs, Admitted}
-use Rattle.scan.proofs.Laws.{clear-is-free}
 
 -- the number that stands for an admission: 0 where it is granted
 abbrev pub numberOf : Admission → ℕ
@@ -66,15 +65,11 @@ not-admitted F m slots r rest done n h e =
     ap (λ (k : ℕ). if eqb k 0 then done else refuse F m slots k) z ∙ ap (λ (b : Bool). if b then done else refuse F m slots (refusalNumber r)) (ne-eqb _ _ (some-number r))
 
 -- and one that passes them
-pub admitted : (F : Frame) (m : List ℕ) (slots : List Slot) (r : Admission) (marks : List Bool) → F .layout .maxPages ≤ 256 → AdmissionIs F m slots r marks → r ≡ Granted → Admitted F m slots marks
+pub admitted : (F : Frame) (m : List ℕ) (slots : List Slot) (r : Admission) (marks : Marks) → AdmissionIs F m slots r marks → r ≡ Granted → Admitted F m slots marks
 unfolding admissionOf
-admitted F m slots r marks few h granted =
+admitted F m slots r marks h granted =
     let passed = both-passed (frameOk F m) (sound F m slots) (sym granted ∙ h .answer) in
-    record {
-      okFrame = passed .0;
-      okTable = passed .1;
-      clear = rw (h .marked granted) (clear-is-free F m slots (passed .1) (omega (arith, few, bounds F (framed F m (passed .0) .0) .most)));
-    }
+    record { okFrame = passed .0; okTable = passed .1; marked = h .marked granted }
 
 -- the number of what `admit` answers
 pub admission-number : (F : Frame) (m : List ℕ) (slots : List Slot) → numberOf (admissionOf F m slots) ≡ (if frameOk F m then (if sound F m slots then 0 else 3) else 1)

@@ -10,9 +10,10 @@ use lib.ListN.{length, getD, drop, drop-of-length-le}
 use lib.Seq.{drop-cons}
 use Rattle.model.specs.Frame.{Frame, lent, indexOf}
 use Rattle.laws.proofs.FrameNumbers.{entry-at}
+use Rattle.marks.specs.Marks.{Marks}
 use Rattle.scan.specs.Scan.{Scan, unsound, marked, thenScan, scanAll, scanRun, claimOf, entryStep, wordStep, blockStep}
 
-module _ (step : List Bool → ℕ → Scan) (k : List Bool) where
+module _ (step : Marks → ℕ → Scan) (k : Marks) where
   -- ---- a list
 
   module _ (l : List ℕ) (i : ℕ) (h : i < length l) where
@@ -21,7 +22,7 @@ module _ (step : List Bool → ℕ → Scan) (k : List Bool) where
     all-turn = ap (scanAll step k) (drop-cons l i 0 h ∙ ap (λ (n : ℕ). getD l i 0 ∷ drop n l) (sym (add-one i)))
 
     -- the step went well: the rest goes on from its marks
-    pub all-on : {j : List Bool} → marked j ≡ step k (getD l i 0) → scanAll step k (drop i l) ≡ scanAll step j (drop (i + 1) l)
+    pub all-on : {j : Marks} → marked j ≡ step k (getD l i 0) → scanAll step k (drop i l) ≡ scanAll step j (drop (i + 1) l)
     all-on said = all-turn ∙ ap (λ (s : Scan). thenScan s (λ o. scanAll step o (drop (i + 1) l))) (sym said)
 
     pub all-stopped : unsound ≡ step k (getD l i 0) → scanAll step k (drop i l) ≡ unsound
@@ -43,7 +44,7 @@ module _ (step : List Bool → ℕ → Scan) (k : List Bool) where
         let e : n - i ≡ suc (n - (i + 1)) = omega arith in
         ap (λ (c : ℕ). scanRun step k c i) e ∙ ap (λ (c : ℕ). thenScan (step k i) (λ o. scanRun step o (n - (i + 1)) c)) (sym (add-one i))
 
-    pub run-on : {j : List Bool} → marked j ≡ step k i → scanRun step k (n - i) i ≡ scanRun step j (n - (i + 1)) (i + 1)
+    pub run-on : {j : Marks} → marked j ≡ step k i → scanRun step k (n - i) i ≡ scanRun step j (n - (i + 1)) (i + 1)
     run-on said = run-turn ∙ ap (λ (s : Scan). thenScan s (λ o. scanRun step o (n - (i + 1)) (i + 1))) (sym said)
 
     pub run-stopped : unsound ≡ step k i → scanRun step k (n - i) i ≡ unsound
@@ -54,7 +55,7 @@ module _ (step : List Bool → ℕ → Scan) (k : List Bool) where
   run-ended n i h = let e : n - i ≡ 0 = omega arith in ap (λ (c : ℕ). scanRun step k c i) e
 
 -- a page that was claimed is lent
-pub claimed-lent : (F : Frame) (k : List Bool) (page : ℕ) {j : List Bool} → marked j ≡ claimOf F k page → lent F page ≡ true
+pub claimed-lent : (F : Frame) (k : Marks) (page : ℕ) {j : Marks} → marked j ≡ claimOf F k page → lent F page ≡ true
 unfolding claimOf
 claimed-lent F k page {j} said = go (lent F page) refl
   where
@@ -63,13 +64,13 @@ claimed-lent F k page {j} said = go (lent F page) refl
     go false q = let bad : marked j ≡ unsound = said ∙ rw q in cc
 
 -- and one that is not lent is not claimed
-pub unlent-claim : (F : Frame) (k : List Bool) (page : ℕ) → lent F page ≡ false → unsound ≡ claimOf F k page
+pub unlent-claim : (F : Frame) (k : Marks) (page : ℕ) → lent F page ≡ false → unsound ≡ claimOf F k page
 unfolding claimOf
 unlent-claim F k page h = rw h
 
 -- ---- the words of a root, from word r on, are its entries
 
-pub words-are-entries : (F : Frame) (m : List ℕ) (root r n : ℕ) (k : List Bool) → lent F root ≡ true → r ≡ indexOf F root 0
+pub words-are-entries : (F : Frame) (m : List ℕ) (root r n : ℕ) (k : Marks) → lent F root ≡ true → r ≡ indexOf F root 0
     → scanRun (wordStep F m r) k n 0 ≡ scanRun (blockStep F m root) k n 0
 words-are-entries F m root r n k h e =
-    ap (λ (step : List Bool → ℕ → Scan). scanRun step k n 0) (fun-ext (λ j. fun-ext (λ b. ap (entryStep F m j) (entry-at F m root b r h e))))
+    ap (λ (step : Marks → ℕ → Scan). scanRun step k n 0) (fun-ext (λ j. fun-ext (λ b. ap (entryStep F m j) (entry-at F m root b r h e))))

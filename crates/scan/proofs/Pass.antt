@@ -3,10 +3,9 @@ use mathlib.Core.Path.{_≡_, refl, sym, ap, ap₂, _∙_}
 use mathlib.Core.Bool.{Bool, true, false, _&&_, false≢true}
 use mathlib.Core.List.{List, [], _∷_, _++_, map, map-append}
 use Prim.Native.Nat.{ℕ, zero, suc, _≤_, _<_}
-use native.Mathlib.Nat.{mod-lt}
+use native.Mathlib.Nat.{mod-lt, lt-of-lt-of-le}
 use native.Mathlib.Omega.{arith}
-use lib.Dec.{eqb, ltb, lit<}
-use lib.ListN.{replicate}
+use lib.Dec.{eqb, ltb, lit<, lit≤}
 use borrow.Author.Tests.{lt-ltb}
 use Rattle.model.specs.Numbers.{if_then_else_, every, joined, each, distinct}
 use Rattle.model.specs.Register.{ppnOf, wpriOf, sdidOf, modeOf}
@@ -17,13 +16,14 @@ use Rattle.model.specs.Walk.{rootPages, entryAt}
 use Rattle.model.specs.Sound.{Slot, register, isOpen, openRegisters, linkOf, roots, sdids, linksIn, used, cleanPage, soundEntry, soundRegister, soundRoot, soundSlots, soundTable}
 use Rattle.laws.proofs.Lists.{each-step}
 use Rattle.laws.proofs.FrameNumbers.{bounds}
-use Rattle.scan.specs.Scan.{Scan, unsound, marked, scanned, thenScan, scanAll, markOf, registerStep, claimOf, marksOf, linkStep, entryStep, blockStep, rootStep, slotStep}
-use Rattle.scan.proofs.Marks.{claimAll, then-unsound, then-marked, then-same, spread, all-claims, run-claims, setAll, claims}
-use Rattle.scan.proofs.UsedPages.{place, used-lent, place-distinct, marks-at-places, places-low}
+use Rattle.marks.specs.Marks.{Marks, allMarks}
+use Rattle.scan.specs.Scan.{Scan, unsound, marked, scanned, thenScan, scanAll, takeMark, registerStep, claimOf, linkStep, entryStep, blockStep, rootStep, slotStep}
+use Rattle.scan.proofs.Marks.{claimAll, then-unsound, then-marked, then-same, spread, all-claims, run-claims, unmarkAll, claims}
+use Rattle.scan.proofs.UsedPages.{place, used-lent, place-distinct, places-low}
 
 -- a pass over all slots is one over the registers of the open ones
-pass-opened : (step inner : List Bool → ℕ → Scan) → ((k : List Bool) (s : Slot) → step k s ≡ (if isOpen s then inner k (register s) else marked k))
-    → (slots : List Slot) (k : List Bool) → scanAll step k slots ≡ scanAll inner k (openRegisters slots)
+pass-opened : (step inner : Marks → ℕ → Scan) → ((k : Marks) (s : Slot) → step k s ≡ (if isOpen s then inner k (register s) else marked k))
+    → (slots : List Slot) (k : Marks) → scanAll step k slots ≡ scanAll inner k (openRegisters slots)
 unfolding scanAll openRegisters
 pass-opened step inner law [] k = refl
 pass-opened step inner law (s ∷ ss) k =
@@ -36,7 +36,7 @@ pass-opened step inner law (s ∷ ss) k =
     go true = refl
     go false = refl
 
-pass-mapped : (step : List Bool → ℕ → Scan) (f : ℕ → ℕ) (xs : List ℕ) (k : List Bool) → scanAll (λ j x. step j (f x)) k xs ≡ scanAll step k (map f xs)
+pass-mapped : (step : Marks → ℕ → Scan) (f : ℕ → ℕ) (xs : List ℕ) (k : Marks) → scanAll (λ j x. step j (f x)) k xs ≡ scanAll step k (map f xs)
 unfolding scanAll
 pass-mapped step f [] k = refl
 pass-mapped step f (x ∷ xs) k = then-same (step k (f x)) _ _ (λ o. pass-mapped step f xs o)
@@ -47,7 +47,7 @@ if-and true b s = refl
 if-and false b s = refl
 
 -- what a function's answer says of a test
-answered : (r b : Bool) (j k : List Bool) → scanned r j ≡ (if b then marked k else unsound) → (r ≡ b) × (r ≡ true → j ≡ k)
+answered : (r b : Bool) (j k : Marks) → scanned r j ≡ (if b then marked k else unsound) → (r ≡ b) × (r ≡ true → j ≡ k)
 answered true true j k e = (refl, λ t. cc)
 answered true false j k e = let bad : _≡_ {A = ℕ} 0 1 = cc in absurd (omega arith)
 answered false true j k e = let bad : _≡_ {A = ℕ} 0 1 = cc in absurd (omega arith)
@@ -59,35 +59,35 @@ module _ (F : Frame) (m : List ℕ) where
 
   -- ---- the registers
 
-  registerInner : List Bool → ℕ → Scan
-  registerInner k r = if eqb (modeOf L r) 1 then (if eqb (wpriOf L r) 0 then markOf k (sdidOf L r) else unsound) else unsound
+  registerInner : Marks → ℕ → Scan
+  registerInner k r = if eqb (modeOf L r) 1 then (if eqb (wpriOf L r) 0 then takeMark k (sdidOf L r) else unsound) else unsound
 
-  register-law : (k : List Bool) (r : ℕ) → registerInner k r ≡ (if soundRegister F r then claimAll k (sdidOf L r ∷ []) else unsound)
+  register-law : (k : Marks) (r : ℕ) → registerInner k r ≡ (if soundRegister F r then claimAll k (sdidOf L r ∷ []) else unsound)
   unfolding registerInner soundRegister claimAll
   register-law k r =
-      if-and (eqb (modeOf L r) 1) (eqb (wpriOf L r) 0) (markOf k (sdidOf L r))
-      ∙ ap (λ (s : Scan). if eqb (modeOf L r) 1 && eqb (wpriOf L r) 0 then s else unsound) (sym (then-marked (markOf k (sdidOf L r))))
+      if-and (eqb (modeOf L r) 1) (eqb (wpriOf L r) 0) (takeMark k (sdidOf L r))
+      ∙ ap (λ (s : Scan). if eqb (modeOf L r) 1 && eqb (wpriOf L r) 0 then s else unsound) (sym (then-marked (takeMark k (sdidOf L r))))
 
   spread-sdids : (rs : List ℕ) → spread (λ r. sdidOf L r ∷ []) rs ≡ map (sdidOf L) rs
   unfolding spread
   spread-sdids [] = refl
   spread-sdids (r ∷ rs) = ap (λ (l : List ℕ). sdidOf L r ∷ l) (spread-sdids rs)
 
-  sdids-low : (rs : List ℕ) → each (λ i. ltb i 64) (map (sdidOf L) rs) ≡ true
+  sdids-low : (rs : List ℕ) → each (λ i. ltb i 256) (map (sdidOf L) rs) ≡ true
   unfolding each sdidOf
   sdids-low [] = refl
   sdids-low (r ∷ rs) =
-      each-step (λ i. ltb i 64) (sdidOf L r) (map (sdidOf L) rs) ∙ ap₂ _&&_ (lt-ltb (sdidOf L r) 64 (mod-lt _ (lit< tt))) (sdids-low rs)
+      each-step (λ i. ltb i 256) (sdidOf L r) (map (sdidOf L) rs) ∙ ap₂ _&&_ (lt-ltb (sdidOf L r) 256 (lt-of-lt-of-le (mod-lt _ (lit< tt)) (lit≤ tt))) (sdids-low rs)
 
   registers-pass : (slots : List Slot)
-      → scanAll (registerStep L) (replicate 64 false) slots ≡ (if soundSlots F slots then marked (setAll (replicate 64 false) (sdids F slots)) else unsound)
+      → scanAll (registerStep L) allMarks slots ≡ (if soundSlots F slots then marked (unmarkAll allMarks (sdids F slots)) else unsound)
   unfolding registerStep registerInner soundSlots sdids
   registers-pass slots =
       let rs = openRegisters slots in
-      pass-opened (registerStep L) registerInner (λ k s. refl) slots (replicate 64 false)
-      ∙ all-claims registerInner (soundRegister F) (λ r. sdidOf L r ∷ []) register-law rs (replicate 64 false)
-      ∙ ap (λ (is : List ℕ). if each (soundRegister F) rs then claimAll (replicate 64 false) is else unsound) (spread-sdids rs)
-      ∙ ap (λ (s : Scan). if each (soundRegister F) rs then s else unsound) (claims 64 (map (sdidOf L) rs) (replicate 64 false) refl refl (sdids-low rs))
+      pass-opened (registerStep L) registerInner (λ k s. refl) slots allMarks
+      ∙ all-claims registerInner (soundRegister F) (λ r. sdidOf L r ∷ []) register-law rs allMarks
+      ∙ ap (λ (is : List ℕ). if each (soundRegister F) rs then claimAll allMarks is else unsound) (spread-sdids rs)
+      ∙ ap (λ (s : Scan). if each (soundRegister F) rs then s else unsound) (claims (map (sdidOf L) rs) (sdids-low rs))
       ∙ if-and (each (soundRegister F) rs) (distinct (map (sdidOf L) rs)) _
 
   -- ---- the tables
@@ -95,12 +95,12 @@ module _ (F : Frame) (m : List ℕ) where
   linkPlaces : Entry → List ℕ
   linkPlaces e = map (place F) (linkOf e)
 
-  entry-law : (k : List Bool) (e : Entry) → entryStep F m k e ≡ (if soundEntry F m e then claimAll k (linkPlaces e) else unsound)
+  entry-law : (k : Marks) (e : Entry) → entryStep F m k e ≡ (if soundEntry F m e then claimAll k (linkPlaces e) else unsound)
   unfolding claimAll linkStep claimOf soundEntry linkPlaces linkOf
   entry-law k (flat p) = refl
   entry-law k (pieces info) = refl
   entry-law k invalid = refl
-  entry-law k (table page) = go (lent F page) (cleanPage F m page) (markOf k (place F page))
+  entry-law k (table page) = go (lent F page) (cleanPage F m page) (takeMark k (place F page))
     where
       go : (a b : Bool) (s : Scan) → thenScan (if a then s else unsound) (scanned b) ≡ (if a && b then thenScan s marked else unsound)
       go true true s = refl
@@ -116,7 +116,7 @@ module _ (F : Frame) (m : List ℕ) where
   rootPlaces : ℕ → List ℕ
   rootPlaces root = place F root ∷ map (place F) (linksIn F m root)
 
-  root-law : (k : List Bool) (root : ℕ) → rootStep F m k root ≡ (if soundRoot F m root then claimAll k (rootPlaces root) else unsound)
+  root-law : (k : Marks) (root : ℕ) → rootStep F m k root ≡ (if soundRoot F m root then claimAll k (rootPlaces root) else unsound)
   unfolding rootStep soundRoot rootPlaces rootPages claimAll claimOf linksIn each linkPlaces
   root-law k root =
       then-same (claimOf F k root) _ _ (λ o.
@@ -130,10 +130,10 @@ module _ (F : Frame) (m : List ℕ) where
       links : List ℕ
       links = map (place F) (joined (λ b. linkOf (entryAt F m root b)) (blocks F) 0)
 
-      go : (a b : Bool) → thenScan (if a then markOf k (place F root) else unsound) (λ o. if b then claimAll o links else unsound)
-          ≡ (if (elim a as (λ x. Bool) [ true ↦ true | false ↦ false ]) && b then thenScan (markOf k (place F root)) (λ o. claimAll o links) else unsound)
+      go : (a b : Bool) → thenScan (if a then takeMark k (place F root) else unsound) (λ o. if b then claimAll o links else unsound)
+          ≡ (if (elim a as (λ x. Bool) [ true ↦ true | false ↦ false ]) && b then thenScan (takeMark k (place F root)) (λ o. claimAll o links) else unsound)
       go true true = refl
-      go true false = then-unsound (markOf k (place F root))
+      go true false = then-unsound (takeMark k (place F root))
       go false b = refl
 
   spread-used : (rs : List ℕ) → spread rootPlaces rs ≡ map (place F) (used F m rs)
@@ -148,38 +148,38 @@ module _ (F : Frame) (m : List ℕ) where
     few = omega (arith, bounds F ok .most, most)
 
     claimed : (ps : List ℕ) → each (lent F) ps ≡ true
-        → claimAll (replicate 256 false) (map (place F) ps) ≡ (if distinct ps then marked (marksOf F ps) else unsound)
+        → claimAll allMarks (map (place F) ps) ≡ (if distinct ps then marked (unmarkAll allMarks (map (place F) ps)) else unsound)
     claimed ps h =
-        claims 256 (map (place F) ps) (replicate 256 false) refl refl (places-low F few ps h)
-        ∙ ap₂ (λ (b : Bool) (k : List Bool). if b then marked k else unsound) (place-distinct F ps h) (marks-at-places F ps (replicate 256 false))
+        claims (map (place F) ps) (places-low F few ps h)
+        ∙ ap (λ (b : Bool). if b then marked (unmarkAll allMarks (map (place F) ps)) else unsound) (place-distinct F ps h)
 
-    roots-pass : (rs : List ℕ) → scanAll (rootStep F m) (replicate 256 false) rs ≡ (if soundTable F m rs then marked (marksOf F (used F m rs)) else unsound)
+    roots-pass : (rs : List ℕ) → scanAll (rootStep F m) allMarks rs ≡ (if soundTable F m rs then marked (unmarkAll allMarks (map (place F) (used F m rs))) else unsound)
     unfolding soundTable
     roots-pass rs =
-        all-claims (rootStep F m) (soundRoot F m) rootPlaces root-law rs (replicate 256 false)
-        ∙ ap (λ (is : List ℕ). if each (soundRoot F m) rs then claimAll (replicate 256 false) is else unsound) (spread-used rs)
+        all-claims (rootStep F m) (soundRoot F m) rootPlaces root-law rs allMarks
+        ∙ ap (λ (is : List ℕ). if each (soundRoot F m) rs then claimAll allMarks is else unsound) (spread-used rs)
         ∙ go (each (soundRoot F m) rs) refl
       where
         go : (t : Bool) → each (soundRoot F m) rs ≡ t
-            → (if t then claimAll (replicate 256 false) (map (place F) (used F m rs)) else unsound)
-            ≡ (if t && distinct (used F m rs) then marked (marksOf F (used F m rs)) else unsound)
+            → (if t then claimAll allMarks (map (place F) (used F m rs)) else unsound)
+            ≡ (if t && distinct (used F m rs) then marked (unmarkAll allMarks (map (place F) (used F m rs))) else unsound)
         go true e = claimed (used F m rs) (used-lent F m rs e)
         go false e = refl
 
     tables-pass : (slots : List Slot)
-        → scanAll (slotStep F m) (replicate 256 false) slots ≡ (if soundTable F m (roots F slots) then marked (marksOf F (used F m (roots F slots))) else unsound)
+        → scanAll (slotStep F m) allMarks slots ≡ (if soundTable F m (roots F slots) then marked (unmarkAll allMarks (map (place F) (used F m (roots F slots)))) else unsound)
     unfolding slotStep roots
     tables-pass slots =
-        pass-opened (slotStep F m) (λ k r. rootStep F m k (ppnOf L r)) (λ k s. refl) slots (replicate 256 false)
-        ∙ pass-mapped (rootStep F m) (ppnOf L) (openRegisters slots) (replicate 256 false)
+        pass-opened (slotStep F m) (λ k r. rootStep F m k (ppnOf L r)) (λ k s. refl) slots allMarks
+        ∙ pass-mapped (rootStep F m) (ppnOf L) (openRegisters slots) allMarks
         ∙ roots-pass (map (ppnOf L) (openRegisters slots))
 
     -- ---- what the functions' answers say
 
-    pub tables-said : (slots : List Slot) {k : List Bool} (r : Bool) (j : List Bool) → k ≡ replicate 256 false → scanned r j ≡ scanAll (slotStep F m) k slots
-        → (r ≡ soundTable F m (roots F slots)) × (r ≡ true → j ≡ marksOf F (used F m (roots F slots)))
-    tables-said slots r j e said = answered r _ j _ (said ∙ ap (λ (k : List Bool). scanAll (slotStep F m) k slots) e ∙ tables-pass slots)
+    pub tables-said : (slots : List Slot) {k : Marks} (r : Bool) (j : Marks) → k ≡ allMarks → scanned r j ≡ scanAll (slotStep F m) k slots
+        → (r ≡ soundTable F m (roots F slots)) × (r ≡ true → j ≡ unmarkAll allMarks (map (place F) (used F m (roots F slots))))
+    tables-said slots r j e said = answered r _ j _ (said ∙ ap (λ (k : Marks). scanAll (slotStep F m) k slots) e ∙ tables-pass slots)
 
-  pub registers-said : (slots : List Slot) {k : List Bool} (r : Bool) (j : List Bool) → k ≡ replicate 64 false → scanned r j ≡ scanAll (registerStep L) k slots
+  pub registers-said : (slots : List Slot) {k : Marks} (r : Bool) (j : Marks) → k ≡ allMarks → scanned r j ≡ scanAll (registerStep L) k slots
       → r ≡ soundSlots F slots
-  registers-said slots r j e said = answered r _ j _ (said ∙ ap (λ (k : List Bool). scanAll (registerStep L) k slots) e ∙ registers-pass slots) .0
+  registers-said slots r j e said = answered r _ j _ (said ∙ ap (λ (k : Marks). scanAll (registerStep L) k slots) e ∙ registers-pass slots) .0

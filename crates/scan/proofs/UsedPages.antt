@@ -1,12 +1,10 @@
--- Pages in use are lent, so that their places among the lent tell them apart, and the marks at these places say which are in use.
+-- Pages in use are lent, so that their places among the lent tell them apart, and the marks that are left say which pages are not in use.
 use mathlib.Core.Path.{_≡_, refl, sym, ap, ap₂, _∙_}
 use mathlib.Core.Bool.{Bool, true, false, _&&_, _||_, not}
 use mathlib.Core.List.{List, [], _∷_, map}
 use Prim.Native.Nat.{ℕ, zero, suc, _-_, _≤_, _<_}
 use native.Mathlib.Omega.{arith}
 use lib.Dec.{eqb, ltb}
-use lib.ListN.{length, getD, set, replicate, length-set}
-use lib.Seq.{getD-set-same, getD-set-other}
 use borrow.Author.Tests.{eq-eqb, ne-eqb, eqb-true, eqb-false, lt-ltb}
 use Rattle.model.specs.Numbers.{every, joined, each, member, distinct}
 use Rattle.model.specs.Entry.{Entry, flat, pieces, table, invalid}
@@ -17,8 +15,9 @@ use Rattle.laws.proofs.Choices.{and-true, and-alone}
 use Rattle.laws.proofs.Every.{every-step}
 use Rattle.laws.proofs.Lists.{each-step, each-append, member-step, distinct-step}
 use Rattle.laws.proofs.FrameNumbers.{lent-in}
-use Rattle.scan.specs.Scan.{markAll, marksOf}
-use Rattle.scan.proofs.Marks.{setAll, none-marked}
+use Rattle.marks.specs.Marks.{markAt, allMarks}
+use Rattle.marks.proofs.Laws.{all-stand}
+use Rattle.scan.proofs.Marks.{unmarkAll, stands-after}
 
 -- each member of joined lists passes, if each list's members do where its number passes
 joined-each : (test guard : ℕ → Bool) (f : ℕ → List ℕ) → ((b : ℕ) → guard b ≡ true → each test (f b) ≡ true)
@@ -84,11 +83,6 @@ module _ (F : Frame) where
       ∙ ap₂ _&&_ (ap not (place-member p ps (k .0) (k .1))) (place-distinct ps (k .1))
       ∙ sym (distinct-step p ps)
 
-  pub marks-at-places : (ps : List ℕ) (k : List Bool) → setAll k (map place ps) ≡ markAll F k ps
-  unfolding setAll markAll
-  marks-at-places [] k = refl
-  marks-at-places (p ∷ ps) k = marks-at-places ps (set k (place p) true)
-
   module _ (few : F .pages ≤ 256) where
     place-low : (p : ℕ) → lent F p ≡ true → place p < 256
     place-low p h = let b = lent-in F p h in omega arith
@@ -100,41 +94,11 @@ module _ (F : Frame) where
         let k = and-true (lent F p) (each (lent F) ps) (sym (each-step (lent F) p ps) ∙ h) in
         each-step (λ i. ltb i 256) (place p) (map place ps) ∙ ap₂ _&&_ (lt-ltb (place p) 256 (place-low p (k .0))) (places-low ps (k .1))
 
-    -- ---- the marks are those of the pages in use
+    -- ---- and what stands once their marks are taken away is the mark of every other lent page
 
-    mark-set : (p q : ℕ) (k : List Bool) → lent F p ≡ true → lent F q ≡ true → length k ≡ 256
-        → getD (set k (place q) true) (place p) false ≡ (eqb p q || getD k (place p) false)
-    mark-set p q k hp hq e = go (eqb (place p) (place q)) refl ∙ ap (λ (t : Bool). t || getD k (place p) false) (place-eqb p q hp hq)
-      where
-        go : (t : Bool) → eqb (place p) (place q) ≡ t → getD (set k (place q) true) (place p) false ≡ (t || getD k (place p) false)
-        go true s =
-            ap (λ (i : ℕ). getD (set k (place q) true) i false) (eqb-true (place p) (place q) s)
-            ∙ getD-set-same k (place q) true false (omega (arith, place-low q hq))
-        go false s = getD-set-other k (place q) (place p) true false (eqb-false (place p) (place q) s)
-
-    or-move : (a b c : Bool) → (b || (a || c)) ≡ ((a || b) || c)
-    or-move true true c = refl
-    or-move true false c = refl
-    or-move false b c = refl
-
-    or-false : (b : Bool) → (b || false) ≡ b
-    or-false true = refl
-    or-false false = refl
-
-    marks-member : (p : ℕ) → lent F p ≡ true → (ps : List ℕ) (k : List Bool) → length k ≡ 256 → each (lent F) ps ≡ true
-        → getD (markAll F k ps) (place p) false ≡ (member p ps || getD k (place p) false)
-    unfolding markAll member each
-    marks-member p hp [] k e h = refl
-    marks-member p hp (q ∷ qs) k e h =
-        let t = and-true (lent F q) (each (lent F) qs) (sym (each-step (lent F) q qs) ∙ h) in
-        marks-member p hp qs (set k (place q) true) (length-set k (place q) true ∙ e) (t .1)
-        ∙ ap (λ (b : Bool). member p qs || b) (mark-set p q k hp (t .0) e)
-        ∙ or-move (eqb p q) (member p qs) (getD k (place p) false)
-        ∙ ap (λ (b : Bool). b || getD k (place p) false) (sym (member-step p q qs))
-
-    -- a lent page is marked exactly when it is among the pages in use
-    pub marked-member : (p : ℕ) → lent F p ≡ true → (ps : List ℕ) → each (lent F) ps ≡ true → getD (marksOf F ps) (place p) false ≡ member p ps
-    marked-member p hp ps h =
-        marks-member p hp ps (replicate 256 false) refl h
-        ∙ ap (λ (b : Bool). member p ps || b) (none-marked 256 (place p))
-        ∙ or-false (member p ps)
+    pub stands-unless-used : (p : ℕ) → lent F p ≡ true → (ps : List ℕ) → each (lent F) ps ≡ true
+        → markAt (unmarkAll allMarks (map place ps)) (place p) ≡ not (member p ps)
+    stands-unless-used p hp ps h =
+        stands-after (map place ps) allMarks (place p)
+        ∙ ap₂ (λ (a b : Bool). not a && b) (place-member p ps hp h) (all-stand (place p) (place-low p hp))
+        ∙ and-alone (not (member p ps))

@@ -116,6 +116,3 @@ every-down test n j h e z =
 
 pub every-fail : (test : ℕ → Bool) (n k : ℕ) → k < n → test k ≡ false → every test n 0 ≡ false
 every-fail test n k h z = split (every test n 0) (λ y. absurd (true≢false (sym (every-in test n 0 y k (omega arith) (omega arith)) ∙ z))) (λ y. y)
-
-pub eqb-swap : (a b : ℕ) → eqb a b ≡ eqb b a
-eqb-swap a b = split (eqb a b) (λ z. z ∙ sym (eq-eqb b a (sym (eqb-true a b z)))) (λ z. z ∙ sym (ne-eqb b a (λ y. eqb-false a b z (sym y))))

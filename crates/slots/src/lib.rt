@@ -7,8 +7,9 @@ use crate::named::bad_sdid;
 use crate::named::not_empty;
 use crate::named::not_open;
 use crate::zero::zero_page;
+use marks::Marks;
+use marks::no_marks;
 use sound::admit;
-use sound::no_pages;
 use sound::pick::free_pages;
 use table::board::Word;
 use table::lent;
@@ -16,7 +17,6 @@ use table::register;
 use types::Admission;
 use types::Fence;
 use types::Frame;
-use types::Marks;
 use types::PageNumber;
 use types::Refusal;
 use types::Reply;
@@ -76,9 +76,9 @@ fn open_admitted(
     slots: [Word; 8],
     slot: u64,
     sdid: Sdid,
-    used: &Marks,
+    marks: &Marks,
 ) -> Outcome
-    requires { ⌜ Admitted (frameOf f (now words)) (now words) slots (now used) ⌝ }
+    requires { ⌜ Admitted (frameOf f (now words)) (now words) slots (now marks) ⌝ }
     ensures { λ r. ⌜ outcomeOf r (now (words .exit)) ≡ calls.openSlot (frameOf f (now (words .entry))) (now (words .entry)) slots slot (sdid .0) ⌝ }
 {
     if not_empty(slots, slot) {
@@ -87,7 +87,7 @@ fn open_admitted(
     if bad_sdid(slots, sdid) {
         return refused(Refusal::Sdid, slots);
     }
-    let free = free_pages(f, words.len(), used);
+    let free = free_pages(f, words.len(), marks);
     if free.count == 0 {
         return refused(Refusal::NoRoom, slots);
     }
@@ -98,10 +98,10 @@ fn open_admitted(
 pub fn open(f: Frame, words: &mut [Word], slots: [Word; 8], slot: u64, sdid: Sdid) -> Outcome
     ensures { λ r. ⌜ outcomeOf r (now (words .exit)) ≡ calls.openSlot (frameOf f (now (words .entry))) (now (words .entry)) slots slot (sdid .0) ⌝ }
 {
-    let mut used = no_pages();
-    match admit(f, words, slots, &mut used) {
+    let mut marks = no_marks();
+    match admit(f, words, slots, &mut marks) {
         Admission::Refused(why) => refused(why, slots),
-        Admission::Granted => open_admitted(f, words, slots, slot, sdid, &used),
+        Admission::Granted => open_admitted(f, words, slots, slot, sdid, &marks),
     }
 }
 
@@ -125,8 +125,8 @@ fn close_at(slots: [Word; 8], slot: u64) -> Outcome
 pub fn close(f: Frame, words: &[Word], slots: [Word; 8], slot: u64) -> Outcome
     ensures { λ r. ⌜ outcomeOf r (now (words .entry)) ≡ calls.closeSlot (frameOf f (now (words .entry))) (now (words .entry)) slots slot ⌝ }
 {
-    let mut used = no_pages();
-    match admit(f, words, slots, &mut used) {
+    let mut marks = no_marks();
+    match admit(f, words, slots, &mut marks) {
         Admission::Refused(why) => refused(why, slots),
         Admission::Granted => {
             if not_open(slots, slot) {

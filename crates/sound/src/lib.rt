@@ -1,6 +1,9 @@
-// The whole-table check: one pass, each entry read once, with a mark for each page in use.
+// The whole-table check: one pass, each entry read once. A page that it meets loses its mark, so that in a sound table just the free pages keep theirs.
 pub mod pick;
 
+use marks::Marks;
+use marks::all_marks;
+use marks::take;
 use table::board::PAGE_WORDS;
 use table::board::RESERVED;
 use table::board::Word;
@@ -11,13 +14,12 @@ use table::word;
 use types::Admission;
 use types::Entry;
 use types::Frame;
-use types::Marks;
 use types::PageNumber;
 use types::Refusal;
 ghost use mathlib.Core.Path.{_≡_};
-ghost use mathlib.Core.Bool.{true, false};
+ghost use mathlib.Core.Bool.{true};
 ghost use Prim.Native.Nat.{_+_, _≤_};
-ghost use lib.ListN.{length, getD, replicate};
+ghost use lib.ListN.{length, getD};
 ghost use Rattle.model.specs.Numbers.{every};
 ghost use Rattle.model.specs.Entry as entry;
 ghost use Rattle.model.specs.Frame.{boundsOk};
@@ -38,52 +40,47 @@ fn clean(words: &[Word], at: usize) -> bool
     all & RESERVED == 0
 }
 
-// Marks a page, if it is lent and not marked.
-fn claim(f: Frame, n: usize, page: PageNumber, used: &mut Marks) -> bool
+// Takes a page's mark, if it is lent and was not met before.
+fn claim(f: Frame, n: usize, page: PageNumber, free: &mut Marks) -> bool
     requires { ⌜ boundsOk (frameOver f n) ≡ true ⌝ }
-    ensures { λ r. ⌜ scanned r (now (used .exit)) ≡ claimOf (frameOver f n) (now (used .entry)) (page .0) ⌝ }
+    ensures { λ r. ⌜ scanned r (now (free .exit)) ≡ claimOf (frameOver f n) (now (free .entry)) (page .0) ⌝ }
 {
     if lent::is_lent(f, n, page) {
-        let at = (page.0 - f.first.0) as usize;
-        if used[at] {
-            return false;
-        }
-        used[at] = true;
-        return true;
+        return take(free, (page.0 - f.first.0) as usize);
     }
     false
 }
 
 // The page that a TYPE 4 entry names.
-fn link(f: Frame, words: &[Word], table: PageNumber, used: &mut Marks) -> bool
+fn link(f: Frame, words: &[Word], table: PageNumber, free: &mut Marks) -> bool
     requires { ⌜ boundsOk (frameOf f (now words)) ≡ true ⌝ }
-    ensures { λ r. ⌜ scanned r (now (used .exit)) ≡ linkStep (frameOf f (now (words .entry))) (now (words .entry)) (now (used .entry)) (table .0) ⌝ }
+    ensures { λ r. ⌜ scanned r (now (free .exit)) ≡ linkStep (frameOf f (now (words .entry))) (now (words .entry)) (now (free .entry)) (table .0) ⌝ }
 {
-    if claim(f, words.len(), table, used) {
+    if claim(f, words.len(), table, free) {
         return clean(words, lent::page_at(f, words, table));
     }
     false
 }
 
-fn entry(f: Frame, words: &[Word], e: Entry, used: &mut Marks) -> bool
+fn entry(f: Frame, words: &[Word], e: Entry, free: &mut Marks) -> bool
     requires { ⌜ boundsOk (frameOf f (now words)) ≡ true ⌝ }
-    ensures { λ r. ⌜ scanned r (now (used .exit)) ≡ entryStep (frameOf f (now (words .entry))) (now (words .entry)) (now (used .entry)) (entryOf e) ⌝ }
+    ensures { λ r. ⌜ scanned r (now (free .exit)) ≡ entryStep (frameOf f (now (words .entry))) (now (words .entry)) (now (free .entry)) (entryOf e) ⌝ }
 {
     match e {
         Entry::Flat(_) => true,
         Entry::Pieces(_) => true,
-        Entry::Table(page) => link(f, words, page, used),
+        Entry::Table(page) => link(f, words, page, free),
         Entry::Invalid => false,
     }
 }
 
 // The count entries whose words start at at. The count is handed in, so that the loop is compiled against a plain number.
-fn entries(f: Frame, words: &[Word], at: usize, count: usize, used: &mut Marks) -> bool
+fn entries(f: Frame, words: &[Word], at: usize, count: usize, free: &mut Marks) -> bool
     requires { ⌜ (boundsOk (frameOf f (now words)) ≡ true) × (at + count ≤ length (now words)) ⌝ }
-    ensures { λ r. ⌜ scanned r (now (used .exit)) ≡ scanRun (wordStep (frameOf f (now (words .entry))) (now (words .entry)) at) (now (used .entry)) count 0 ⌝ }
+    ensures { λ r. ⌜ scanned r (now (free .exit)) ≡ scanRun (wordStep (frameOf f (now (words .entry))) (now (words .entry)) at) (now (free .entry)) count 0 ⌝ }
 {
     for b in 0..count {
-        if !entry(f, words, word::decode(words[at + b]), used) {
+        if !entry(f, words, word::decode(words[at + b]), free) {
             return false;
         }
     }
@@ -91,43 +88,43 @@ fn entries(f: Frame, words: &[Word], at: usize, count: usize, used: &mut Marks) 
 }
 
 // A root: the page itself, then "The first 2^(PAW-25) entries of each root"; "the rest of the page is never read".
-fn root(f: Frame, words: &[Word], page: PageNumber, used: &mut Marks) -> bool
+fn root(f: Frame, words: &[Word], page: PageNumber, free: &mut Marks) -> bool
     requires { ⌜ boundsOk (frameOf f (now words)) ≡ true ⌝ }
-    ensures { λ r. ⌜ scanned r (now (used .exit)) ≡ rootStep (frameOf f (now (words .entry))) (now (words .entry)) (now (used .entry)) (page .0) ⌝ }
+    ensures { λ r. ⌜ scanned r (now (free .exit)) ≡ rootStep (frameOf f (now (words .entry))) (now (words .entry)) (now (free .entry)) (page .0) ⌝ }
 {
-    if claim(f, words.len(), page, used) {
+    if claim(f, words.len(), page, free) {
         let count = lent::block_count(f, words.len());
         let at = lent::page_at(f, words, page);
-        return entries(f, words, at, count, used);
+        return entries(f, words, at, count, free);
     }
     false
 }
 
-fn slot(f: Frame, words: &[Word], register: Word, used: &mut Marks) -> bool
+fn slot(f: Frame, words: &[Word], register: Word, free: &mut Marks) -> bool
     requires { ⌜ boundsOk (frameOf f (now words)) ≡ true ⌝ }
-    ensures { λ r. ⌜ scanned r (now (used .exit)) ≡ slotStep (frameOf f (now (words .entry))) (now (words .entry)) (now (used .entry)) register ⌝ }
+    ensures { λ r. ⌜ scanned r (now (free .exit)) ≡ slotStep (frameOf f (now (words .entry))) (now (words .entry)) (now (free .entry)) register ⌝ }
 {
     if register == 0 {
         return true;
     }
-    root(f, words, register::ppn(register), used)
+    root(f, words, register::ppn(register), free)
 }
 
-fn tables(f: Frame, words: &[Word], slots: [Word; 8], used: &mut Marks) -> bool
+fn tables(f: Frame, words: &[Word], slots: [Word; 8], free: &mut Marks) -> bool
     requires { ⌜ boundsOk (frameOf f (now words)) ≡ true ⌝ }
-    ensures { λ r. ⌜ scanned r (now (used .exit)) ≡ scanAll (slotStep (frameOf f (now (words .entry))) (now (words .entry))) (now (used .entry)) slots ⌝ }
+    ensures { λ r. ⌜ scanned r (now (free .exit)) ≡ scanAll (slotStep (frameOf f (now (words .entry))) (now (words .entry))) (now (free .entry)) slots ⌝ }
 {
     for i in 0..8usize {
-        if !slot(f, words, slots[i], used) {
+        if !slot(f, words, slots[i], free) {
             return false;
         }
     }
     true
 }
 
-// A slot's register; held has a mark for each SDID.
-fn register(r: Word, held: &mut [bool; 64]) -> bool
-    ensures { λ r′. ⌜ scanned r′ (now (held .exit)) ≡ registerStep board (now (held .entry)) r ⌝ }
+// A slot's register; sdids has a mark for each SDID that was not met before.
+fn register(r: Word, sdids: &mut Marks) -> bool
+    ensures { λ r′. ⌜ scanned r′ (now (sdids .exit)) ≡ registerStep board (now (sdids .entry)) r ⌝ }
 {
     if r == 0 {
         return true;
@@ -138,52 +135,34 @@ fn register(r: Word, held: &mut [bool; 64]) -> bool
     if register::wpri(r) != 0 {
         return false;
     }
-    let at = register::sdid(r).0 as usize;
-    if held[at] {
-        return false;
-    }
-    held[at] = true;
-    true
+    take(sdids, register::sdid(r).0 as usize)
 }
 
-fn registers(slots: [Word; 8], held: &mut [bool; 64]) -> bool
-    ensures { λ r. ⌜ scanned r (now (held .exit)) ≡ scanAll (registerStep board) (now (held .entry)) slots ⌝ }
+fn registers(slots: [Word; 8], sdids: &mut Marks) -> bool
+    ensures { λ r. ⌜ scanned r (now (sdids .exit)) ≡ scanAll (registerStep board) (now (sdids .entry)) slots ⌝ }
 {
     for i in 0..8usize {
-        if !register(slots[i], held) {
+        if !register(slots[i], sdids) {
             return false;
         }
     }
     true
 }
 
-// No page is marked.
-pub fn no_pages() -> Marks
-    ensures { λ r. ⌜ r ≡ replicate 256 false ⌝ }
-{
-    [false; 256]
-}
-
-fn no_sdids() -> [bool; 64]
-    ensures { λ r. ⌜ r ≡ replicate 64 false ⌝ }
-{
-    [false; 64]
-}
-
 // What each call but a lookup asks first: "frame breaks its bounds", and then "table not sound", the registers of the open slots before
-// their tables. If neither fits, used has a mark for each page in use.
-pub fn admit(f: Frame, words: &[Word], slots: [Word; 8], used: &mut Marks) -> Admission
-    requires { ⌜ now used ≡ replicate 256 false ⌝ }
-    ensures { λ r. ⌜ AdmissionIs (frameOf f (now (words .entry))) (now (words .entry)) slots r (now (used .exit)) ⌝ }
+// their tables. If neither fits, each lent page is marked exactly when it is free, whatever marks the caller lent.
+pub fn admit(f: Frame, words: &[Word], slots: [Word; 8], free: &mut Marks) -> Admission
+    ensures { λ r. ⌜ AdmissionIs (frameOf f (now (words .entry))) (now (words .entry)) slots r (now (free .exit)) ⌝ }
 {
     if !lent::frame_ok(f, words) {
         return Admission::Refused(Refusal::Frame);
     }
-    let mut held = no_sdids();
-    if !registers(slots, &mut held) {
+    let mut sdids = all_marks();
+    if !registers(slots, &mut sdids) {
         return Admission::Refused(Refusal::NotSound);
     }
-    if !tables(f, words, slots, used) {
+    *free = all_marks();
+    if !tables(f, words, slots, free) {
         return Admission::Refused(Refusal::NotSound);
     }
     Admission::Granted

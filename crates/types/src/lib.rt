@@ -107,9 +107,6 @@ pub enum Admission {
     Refused(Refusal),
 }
 
-// A mark for each lent page: no board has more than 256 of them.
-pub type Marks = [bool; 256];
-
 // What an edit asks. The permission is its two bits, as an entry holds them.
 pub struct Request {
     pub slot: u64,

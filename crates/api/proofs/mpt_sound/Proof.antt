@@ -10,8 +10,8 @@ use Rattle.api.proofs.mpt_sound.Statement.{statement}
 use Rattle.api.proofs.mpt_sound.Tie as tie
 use Rattle.table.specs.Board.{boardFrame, PAGE-WORDS}
 
-no-pages-requires : tie.Need-no-pages-requires
-no-pages-requires c κs = search needs
+no-marks-requires : tie.Need-no-marks-requires
+no-marks-requires c κs = search needs
 
 admit-requires : tie.Need-admit-requires
 admit-requires c κs = search needs
@@ -40,4 +40,4 @@ returns-2 c = sym (ap numberOf (c .enum-told .given .1)) ∙ says (c .before .be
 pub mpt-sound-spec : {M : Type 1} → statement M
 mpt-sound-spec =
     tie.close
-    (tie.spec no-pages-requires admit-requires enum-known-why of-refusal-requires enum-told returns returns-2)
+    (tie.spec no-marks-requires admit-requires enum-known-why of-refusal-requires enum-told returns returns-2)

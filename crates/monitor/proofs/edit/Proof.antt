@@ -2,7 +2,6 @@
 use mathlib.Core.Path.{sym, ap, _∙_}
 use mathlib.Core.List.{List}
 use Prim.Native.Nat.{ℕ}
-use lib.Dec.{lit≤}
 use denote.Ref.{now}
 use borrow.Author.Needs.{needs}
 use Rattle.model.specs.Frame.{Frame}
@@ -36,10 +35,10 @@ given : (t : tie.After-enum-told) → let k = t .before .before in let s = k .be
 given t =
     let k = t .before .before in
     let s = k .before .before .before .before .before in
-    admitted (frameAt s) (memoryOf s) (s .args .slots) _ _ (lit≤ tt) (k .admit .ensures) (t .enum-told .given .1)
+    admitted (frameAt s) (memoryOf s) (s .args .slots) _ _ (k .admit .ensures) (t .enum-told .given .1)
 
-no-pages-requires : tie.Need-no-pages-requires
-no-pages-requires c κs = search needs
+no-marks-requires : tie.Need-no-marks-requires
+no-marks-requires c κs = search needs
 
 admit-requires : tie.Need-admit-requires
 admit-requires c κs = search needs
@@ -86,7 +85,7 @@ edit-open-requires c κs =
       okTable = g .okTable;
       okSlot = sym (o .before .not-open .ensures) ∙ o .if1 .left;
       small = b .bits .ensures .1;
-      clear = g .clear;
+      marked = g .marked;
     }
 
 same-length-2 : tie.Need-same-length-2
@@ -114,7 +113,7 @@ pub edit-spec : {M : Type 1} → statement M
 edit-spec =
     tie.close
     (tie.spec
-    no-pages-requires
+    no-marks-requires
     admit-requires
     enum-known-why
     refused-requires

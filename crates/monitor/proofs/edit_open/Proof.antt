@@ -17,6 +17,7 @@ use Rattle.model.specs.Calls.{slotAt, registerFor, rootOf, refuse, badRange, me
 use Rattle.laws.proofs.FrameNumbers.{framed}
 use Rattle.types.specs.declared.Free.{Free}
 use Rattle.scan.specs.FreeMarks.{listed}
+use Rattle.scan.proofs.Laws.{marked-are-free}
 use Rattle.types.specs.Views.{requestOf, freeList}
 use Rattle.shapes.specs.Blocks.{wholePages}
 use Rattle.sequence.specs.Prepared.{Prepared}
@@ -50,7 +51,7 @@ rootAt s = rootOf (frameAt s) (s .args .t3) (request s)
 abbrev pages : (s : tie.Start) → List ℕ
 pages s = freePages (frameAt s) (memoryOf s) (roots (frameAt s) (s .args .t3))
 
-given : (s : tie.Start) → InOpenSlot (frameAt s) (memoryOf s) (s .args .t3) (request s) (now (s .args .used))
+given : (s : tie.Start) → InOpenSlot (frameAt s) (memoryOf s) (s .args .t3) (request s) (now (s .args .marks))
 given s = s .pre
 
 low : (s : tie.Start) → s .args .q .slot < 8
@@ -65,7 +66,7 @@ lent-passes c = sym (c .before .on-lent-pages .ensures) ∙ c .if2 .left
 
 -- what is picked from the marks are the free pages
 free-are : (c : tie.After-free-pages) → let s = c .before .before .before .before .before .before in c .free-pages .result ≡ listed (pages s)
-free-are c = c .free-pages .ensures ∙ ap listed (given (c .before .before .before .before .before .before) .clear)
+free-are c = c .free-pages .ensures ∙ ap listed (marked-are-free _ _ _ _ (given (c .before .before .before .before .before .before) .marked))
 
 -- the new pages of the whole edit, from the slot's own root
 pages-are : (c : tie.After-new-pages) → let s = c .before .before .before .before .before .before .before .before .before in

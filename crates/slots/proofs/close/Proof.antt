@@ -1,7 +1,6 @@
 -- `slots::close` meets its contract: each return is one of the laws of `Refusals`, by the tests so far.
 use mathlib.Core.Path.{_≡_, sym, ap, _∙_}
 use mathlib.Core.Bool.{false}
-use lib.Dec.{lit≤}
 use denote.Ref.{now}
 use borrow.Author.Needs.{needs}
 use Rattle.model.specs.Calls.{slotAt, refuse}
@@ -16,8 +15,8 @@ use Rattle.slots.proofs.close.Statement.{statement}
 use Rattle.slots.proofs.close.Tie as tie
 use Rattle.table.specs.Board.{frameOf}
 
-no-pages-requires : tie.Need-no-pages-requires
-no-pages-requires c κs = search needs
+no-marks-requires : tie.Need-no-marks-requires
+no-marks-requires c κs = search needs
 
 admit-requires : tie.Need-admit-requires
 admit-requires c κs = search needs
@@ -42,7 +41,7 @@ given : (t : tie.After-enum-told) → let k = t .before .before in let a = k .be
 given t =
     let k = t .before .before in
     let a = k .before .before .before .before .args in
-    admitted (frameOf (a .f) (now (a .words))) (now (a .words)) (a .slots) _ _ (lit≤ tt) (k .admit .ensures) (t .enum-told .given .1)
+    admitted (frameOf (a .f) (now (a .words))) (now (a .words)) (a .slots) _ _ (k .admit .ensures) (t .enum-told .given .1)
 
 passes : (c : tie.Else1) → notOpen (c .before .before .before .before .before .before .before .before .args .slots) (c .before .before .before .before .before .before .before .before .args .slot) ≡ false
 passes c = sym (c .before .not-open .ensures) ∙ c .if1 .left
@@ -79,7 +78,7 @@ pub close-spec : {M : Type 1} → statement M
 close-spec =
     tie.close
     (tie.spec
-    no-pages-requires
+    no-marks-requires
     admit-requires
     enum-known-why
     refused-requires

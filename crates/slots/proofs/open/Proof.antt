@@ -1,6 +1,5 @@
 -- `slots::open` meets its contract: what `admit` refuses, or what `open_admitted` does with the marks.
 use mathlib.Core.Path.{sym, _∙_}
-use lib.Dec.{lit≤}
 use denote.Ref.{now}
 use borrow.Author.Needs.{needs}
 use Rattle.model.specs.Calls.{refuse}
@@ -10,8 +9,8 @@ use Rattle.slots.proofs.open.Statement.{statement}
 use Rattle.slots.proofs.open.Tie as tie
 use Rattle.table.specs.Board.{frameOf}
 
-no-pages-requires : tie.Need-no-pages-requires
-no-pages-requires c κs = search needs
+no-marks-requires : tie.Need-no-marks-requires
+no-marks-requires c κs = search needs
 
 admit-requires : tie.Need-admit-requires
 admit-requires c κs = search needs
@@ -30,7 +29,7 @@ open-admitted-requires c κs =
     let t = c .before .before in
     let k = t .before .before in
     let a = k .before .before .before .before .before .args in
-    admitted (frameOf (a .f) (now (a .words))) (now (a .words)) (a .slots) _ _ (lit≤ tt) (k .admit .ensures) (t .enum-told .given .1)
+    admitted (frameOf (a .f) (now (a .words))) (now (a .words)) (a .slots) _ _ (k .admit .ensures) (t .enum-told .given .1)
 
 same-length : tie.Need-same-length
 same-length c = search needs
@@ -53,7 +52,7 @@ pub open-spec : {M : Type 1} → statement M
 open-spec =
     tie.close
     (tie.spec
-    no-pages-requires
+    no-marks-requires
     admit-requires
     enum-known-why
     refused-requires

@@ -16,7 +16,7 @@ use Rattle.model.specs.Calls.{refuse}
 use Rattle.laws.proofs.FrameNumbers.{framed}
 use Rattle.types.specs.declared.Free.{Free}
 use Rattle.scan.specs.FreeMarks.{listed}
-use Rattle.scan.proofs.Laws.{free-lent, head-lent}
+use Rattle.scan.proofs.Laws.{free-lent, head-lent, marked-are-free}
 use Rattle.shapes.specs.Slots.{notEmpty, badSdid}
 use Rattle.slots.proofs.Refusals.{open-slot, open-sdid, open-no-room, open-done}
 use Rattle.shapes.proofs.SlotLaws.{slot-low, sdid-low}
@@ -39,7 +39,7 @@ sdid-passes c = sym (c .before .bad-sdid .ensures) ∙ c .if2 .left
 
 -- what is picked from the marks are the free pages
 free-are : (c : tie.After-free-pages) → c .free-pages .result ≡ listed (pagesAt (c .before .before .before .before .before .before))
-free-are c = c .free-pages .ensures ∙ ap listed (c .before .before .before .before .before .before .pre .clear)
+free-are c = c .free-pages .ensures ∙ ap listed (marked-are-free _ _ _ _ (c .before .before .before .before .before .before .pre .marked))
 
 -- whether there is one
 listed-none : (pages : List ℕ) → eqb (listed pages .count) 0 ≡ eqb (length pages) 0

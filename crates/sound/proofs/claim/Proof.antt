@@ -7,7 +7,7 @@ use borrow.Author.Needs.{needs}
 use Rattle.model.specs.Frame.{lent}
 use Rattle.table.specs.Board.{frameOver}
 use Rattle.laws.proofs.FrameNumbers.{bounds, lent-in}
-use Rattle.scan.specs.Scan.{claimOf, markOf}
+use Rattle.scan.specs.Scan.{claimOf, takeMark}
 use Rattle.scan.proofs.Loops.{unlent-claim}
 use Rattle.sound.proofs.claim.Statement.{statement}
 use Rattle.sound.proofs.claim.Tie as tie
@@ -25,34 +25,25 @@ inside c =
 is-lent-requires : tie.Need-is-lent-requires
 is-lent-requires c κs = search needs
 
-sub-at : tie.Need-sub-at
-sub-at c = let h = inside (c .before .before) in omega arith
+sub-take : tie.Need-sub-take
+sub-take c = let h = inside (c .before .before .before) in omega arith
 
-element-copy-out-if2 : tie.Need-element-copy-out-if2
-element-copy-out-if2 c = let h = inside (c .before .before) in omega arith
+take-requires : tie.Need-take-requires
+take-requires c κs = let h = inside (c .before .before .before) in omega arith
 
 returns : tie.Need-returns
-unfolding claimOf markOf
-returns c = rw (lent-here (c .before .before .before .before), c .if2 .taken)
-
-element-write-used : tie.Need-element-write-used
-element-write-used c = let h = inside (c .before .before .before .before) in omega arith
+unfolding claimOf takeMark
+returns c = rw (lent-here (c .before .before .before .before), c .take .ensures .0, c .take .ensures .1)
 
 returns-2 : tie.Need-returns-2
-unfolding claimOf markOf
-returns-2 c = rw (lent-here (c .before .before .before .before), c .if2 .left)
-
-returns-3 : tie.Need-returns-3
-returns-3 c = unlent-claim _ _ _ (sym (c .before .is-lent .ensures) ∙ c .if1 .left)
+returns-2 c = unlent-claim _ _ _ (sym (c .before .is-lent .ensures) ∙ c .if1 .left)
 
 pub claim-spec : {M : Type 1} → statement M
 claim-spec =
     tie.close
     (tie.spec
     is-lent-requires
-    sub-at
-    element-copy-out-if2
+    sub-take
+    take-requires
     returns
-    element-write-used
-    returns-2
-    returns-3)
+    returns-2)

@@ -13,16 +13,16 @@ use Rattle.sound.proofs.entries.Statement.{statement}
 use Rattle.sound.proofs.entries.Tie as tie
 
 abbrev Inv-loop : tie.InvT-loop
-Inv-loop f words at count used₀ b₀ used b = (b ≤ count) × (at + count ≤ length words)
-    × (scanRun (wordStep (frameOf f words) words at) used₀ count 0 ≡ scanRun (wordStep (frameOf f words) words at) used (count - b) b)
+Inv-loop f words at count free₀ b₀ free b = (b ≤ count) × (at + count ≤ length words)
+    × (scanRun (wordStep (frameOf f words) words at) free₀ count 0 ≡ scanRun (wordStep (frameOf f words) words at) free (count - b) b)
 
 abbrev μ-loop : tie.MeasureT-loop
-μ-loop f words at count used₀ b₀ used b = count - b
+μ-loop f words at count free₀ b₀ free b = count - b
 
 -- what the entry at hand says
 said : (c : tie.After-entry Inv-loop μ-loop) → let l = c .before .before .before .before .before in let a = l .before .before .args in
     scanned (c .entry .result) (c .entry .last .1 .1 .1 .0)
-    ≡ wordStep (frameOf (a .f) (now (a .words))) (now (a .words)) (a .at) (l .loop .used) (l .loop .b)
+    ≡ wordStep (frameOf (a .f) (now (a .words))) (now (a .words)) (a .at) (l .loop .free) (l .loop .b)
 said c = c .entry .ensures ∙ ap (entryStep _ _ _) (c .before .before .decode .ensures .0)
 
 loop-holds : tie.Need-loop-holds Inv-loop μ-loop

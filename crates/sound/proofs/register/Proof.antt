@@ -1,11 +1,12 @@
 -- `sound::register` meets its contract: the tests come in the order of the definition.
 use mathlib.Core.Path.{_≡_}
+use native.Mathlib.Omega.{arith}
 use borrow.Author.Tests.{eq-eqb, ne-eqb}
 use borrow.Author.Needs.{needs}
 use Rattle.model.specs.Register.{modeOf, wpriOf}
 use Rattle.model.specs.Sound.{isOpen}
 use Rattle.table.specs.Board.{board}
-use Rattle.scan.specs.Scan.{registerStep, markOf}
+use Rattle.scan.specs.Scan.{registerStep, takeMark}
 use Rattle.sound.proofs.register.Statement.{statement}
 use Rattle.sound.proofs.register.Tie as tie
 
@@ -39,25 +40,24 @@ returns-3 c = let w = c .before in
 sdid-requires : tie.Need-sdid-requires
 sdid-requires c κs = search needs
 
-element-copy-out-if4 : tie.Need-element-copy-out-if4
-element-copy-out-if4 c = search needs
+take-requires : tie.Need-take-requires
+take-requires c κs = omega (arith, c .sdid .ensures .1)
 
 returns-4 : tie.Need-returns-4
-unfolding registerStep markOf isOpen
-returns-4 c = let s = c .before .before in
-    let w = s .before .before in
+unfolding registerStep takeMark isOpen
+returns-4 c = let s = c .before in
+    let w = s .before .before .before in
     let t = w .before in
-    rw (ne-eqb _ _ (t .before .before .if1 .left), ← mode-is (t .before), eq-eqb _ _ (t .if2 .left), ← wpri-is w, eq-eqb _ _ (s .before .if3 .left), ← s .sdid .ensures .0, c .if4 .taken)
-
-element-write-held : tie.Need-element-write-held
-element-write-held c = search needs
-
-returns-5 : tie.Need-returns-5
-unfolding registerStep markOf isOpen
-returns-5 c = let s = c .before .before in
-    let w = s .before .before in
-    let t = w .before in
-    rw (ne-eqb _ _ (t .before .before .if1 .left), ← mode-is (t .before), eq-eqb _ _ (t .if2 .left), ← wpri-is w, eq-eqb _ _ (s .before .if3 .left), ← s .sdid .ensures .0, c .if4 .left)
+    rw (
+      ne-eqb _ _ (t .before .before .if1 .left),
+      ← mode-is (t .before),
+      eq-eqb _ _ (t .if2 .left),
+      ← wpri-is w,
+      eq-eqb _ _ (s .before .before .if3 .left),
+      ← s .sdid .ensures .0,
+      c .take .ensures .0,
+      c .take .ensures .1,
+    )
 
 pub register-spec : {M : Type 1} → statement M
 register-spec =
@@ -69,7 +69,5 @@ register-spec =
     wpri-requires
     returns-3
     sdid-requires
-    element-copy-out-if4
-    returns-4
-    element-write-held
-    returns-5)
+    take-requires
+    returns-4)

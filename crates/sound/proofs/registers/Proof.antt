@@ -12,10 +12,10 @@ use Rattle.sound.proofs.registers.Statement.{statement}
 use Rattle.sound.proofs.registers.Tie as tie
 
 abbrev Inv-loop : tie.InvT-loop
-Inv-loop held₀ slots i₀ held i = (i ≤ 8) × (length slots ≡ 8) × (scanAll (registerStep board) held₀ slots ≡ scanAll (registerStep board) held (drop i slots))
+Inv-loop sdids₀ slots i₀ sdids i = (i ≤ 8) × (length slots ≡ 8) × (scanAll (registerStep board) sdids₀ slots ≡ scanAll (registerStep board) sdids (drop i slots))
 
 abbrev μ-loop : tie.MeasureT-loop
-μ-loop held₀ slots i₀ held i = 8 - i
+μ-loop sdids₀ slots i₀ sdids i = 8 - i
 
 loop-holds : tie.Need-loop-holds Inv-loop μ-loop
 loop-holds c = (omega arith, search needs, refl)

@@ -12,11 +12,11 @@ use Rattle.sound.proofs.tables.Statement.{statement}
 use Rattle.sound.proofs.tables.Tie as tie
 
 abbrev Inv-loop : tie.InvT-loop
-Inv-loop f words used₀ slots i₀ used i = (i ≤ 8) × (length slots ≡ 8)
-    × (scanAll (slotStep (frameOf f words) words) used₀ slots ≡ scanAll (slotStep (frameOf f words) words) used (drop i slots))
+Inv-loop f words free₀ slots i₀ free i = (i ≤ 8) × (length slots ≡ 8)
+    × (scanAll (slotStep (frameOf f words) words) free₀ slots ≡ scanAll (slotStep (frameOf f words) words) free (drop i slots))
 
 abbrev μ-loop : tie.MeasureT-loop
-μ-loop f words used₀ slots i₀ used i = 8 - i
+μ-loop f words free₀ slots i₀ free i = 8 - i
 
 loop-holds : tie.Need-loop-holds Inv-loop μ-loop
 loop-holds c = (omega arith, search needs, refl)

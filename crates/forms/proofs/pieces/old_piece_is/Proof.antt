@@ -9,7 +9,7 @@ use Rattle.laws.proofs.FrameNumbers.{index-add}
 use Rattle.table.specs.Board.{PIECE-PAGES, PIECE-WORDS, frameOf}
 use Rattle.forms.proofs.BoardShape.{board-shape}
 use Rattle.shapes.proofs.EntryLaws.{run-outside}
-use Rattle.shapes.proofs.Fields.{eqb-swap}
+use Rattle.laws.proofs.Tests.{eqb-swap}
 use Rattle.shapes.proofs.FormLaws.{piece-words}
 use Rattle.model.specs.Entry.{Entry}
 use Rattle.model.specs.Forms.{allAre, permOf}
