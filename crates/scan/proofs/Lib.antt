@@ -1,6 +1,7 @@
 -- Why the pass with marks finds what the definition of a sound table says.
 --
---   Loops        one turn of a loop, over a list and over a run of numbers, for any step
+--   Loops        one turn of a loop, over a list and over words part by part
+--   FlatEntries  entries of the "1G" types name no page, and many are told at once
 --   Marks        a pass that takes marks away finds whether the places are distinct, and leaves all the others
 --   UsedPages    pages in use are lent, so that their places among the lent tell them apart; the marks that are left
 --   Pass         the two passes, over the registers and over the tables
@@ -8,6 +9,7 @@
 --   Laws         what callers use: a lent page of a sound table is marked exactly when it is free; free pages are lent
 --   Admissions   refusals 1 and 3, once for every call
 pub mod Loops
+pub mod FlatEntries
 pub mod Marks
 pub mod UsedPages
 pub mod Pass

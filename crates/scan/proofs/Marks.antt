@@ -23,10 +23,6 @@ pub then-unsound : (s : Scan) → thenScan s (λ o. unsound) ≡ unsound
 then-unsound unsound = refl
 then-unsound (marked k) = refl
 
-pub then-marked : (s : Scan) → thenScan s marked ≡ s
-then-marked unsound = refl
-then-marked (marked k) = refl
-
 then-then : (s : Scan) (g h : Marks → Scan) → thenScan s (λ o. thenScan (g o) h) ≡ thenScan (thenScan s g) h
 then-then unsound g h = refl
 then-then (marked k) g h = refl

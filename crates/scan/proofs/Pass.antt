@@ -18,7 +18,8 @@ use Rattle.laws.proofs.Lists.{each-step}
 use Rattle.laws.proofs.FrameNumbers.{bounds}
 use Rattle.marks.specs.Marks.{Marks, allMarks}
 use Rattle.scan.specs.Scan.{Scan, unsound, marked, scanned, thenScan, scanAll, takeMark, registerStep, claimOf, linkStep, entryStep, blockStep, rootStep, slotStep}
-use Rattle.scan.proofs.Marks.{claimAll, then-unsound, then-marked, then-same, spread, all-claims, run-claims, unmarkAll, claims}
+use Rattle.scan.proofs.Loops.{then-marked}
+use Rattle.scan.proofs.Marks.{claimAll, then-unsound, then-same, spread, all-claims, run-claims, unmarkAll, claims}
 use Rattle.scan.proofs.UsedPages.{place, used-lent, place-distinct, places-low}
 
 -- a pass over all slots is one over the registers of the open ones

@@ -1,8 +1,9 @@
 -- The pass over a table as the code makes it: a page that is met loses its mark, and one that has none is met twice. The contracts of the
 -- pass cite this.
+use mathlib.Core.Path.{_≡_}
 use mathlib.Core.Bool.{Bool, true, false}
 use mathlib.Core.List.{List, [], _∷_}
-use Prim.Native.Nat.{ℕ, zero, suc, _+_, _-_}
+use Prim.Native.Nat.{ℕ, zero, suc, _+_, _-_, _/_, _%_, _^_, _<_}
 use lib.Dec.{eqb}
 use lib.ListN.{getD}
 use Rattle.model.specs.Numbers.{if_then_else_}
@@ -40,6 +41,10 @@ scanRun step marks (suc n) s = thenScan (step marks s) (λ after. scanRun step a
 -- a mark is taken away that stood
 unfoldable pub takeMark : Marks → ℕ → Scan
 takeMark marks i = scanned (markAt marks i) (unmark marks i)
+
+-- an L2 entry of the "1G" types, by its word: TYPE below 4, ZERO and INFO zero
+abbrev pub FlatWord : Layout → ℕ → Type 0
+FlatWord L w = (w / 2 ^ L .infoBits < 4) × (w % 2 ^ L .infoBits ≡ 0)
 
 -- a slot's register: "MODE 1, WPRI zero, distinct SDIDs". A mark for each SDID that was not met before
 unfoldable pub registerStep : Layout → Marks → Slot → Scan

@@ -6,27 +6,34 @@ use marks::all_marks;
 use marks::take;
 use table::board::PAGE_WORDS;
 use table::board::RESERVED;
+use table::board::TYPE_UNIT;
 use table::board::Word;
 use table::board::wide;
 use table::lent;
 use table::register;
 use table::word;
+use table::word::PERMISSIONS;
 use types::Admission;
 use types::Entry;
 use types::Frame;
 use types::PageNumber;
 use types::Refusal;
+use types::pages::GIB_BLOCKS;
 ghost use mathlib.Core.Path.{_≡_};
 ghost use mathlib.Core.Bool.{true};
-ghost use Prim.Native.Nat.{_+_, _≤_};
+ghost use Prim.Native.Nat.{ℕ, _+_, _-_, _%_, _≤_, _<_};
 ghost use lib.ListN.{length, getD};
 ghost use Rattle.model.specs.Numbers.{every};
 ghost use Rattle.model.specs.Entry as entry;
 ghost use Rattle.model.specs.Frame.{boundsOk};
+ghost use Rattle.model.specs.Layout.{gibBlocks};
 ghost use Rattle.table.specs.Board.{board, frameOver, frameOf};
 ghost use Rattle.types.specs.Views.{entryOf};
 ghost use Rattle.scan.specs.Admission.{AdmissionIs};
-ghost use Rattle.scan.specs.Scan.{scanned, scanAll, scanRun, claimOf, linkStep, entryStep, wordStep, rootStep, slotStep, registerStep};
+ghost use Rattle.scan.specs.Scan.{FlatWord, scanned, scanAll, scanRun, claimOf, linkStep, entryStep, wordStep, rootStep, slotStep, registerStep};
+
+// The blocks of a GiB.
+const GIB: usize = GIB_BLOCKS as usize;
 
 // "all reserved bits in it are zero": the words are gathered by `|` and tested once.
 fn clean(words: &[Word], at: usize) -> bool
@@ -74,17 +81,71 @@ fn entry(f: Frame, words: &[Word], e: Entry, free: &mut Marks) -> bool
     }
 }
 
-// The count entries whose words start at at. The count is handed in, so that the loop is compiled against a plain number.
-fn entries(f: Frame, words: &[Word], at: usize, count: usize, free: &mut Marks) -> bool
-    requires { ⌜ (boundsOk (frameOf f (now words)) ≡ true) × (at + count ≤ length (now words)) ⌝ }
-    ensures { λ r. ⌜ scanned r (now (free .exit)) ≡ scanRun (wordStep (frameOf f (now (words .entry))) (now (words .entry)) at) (now (free .entry)) count 0 ⌝ }
+// The entries whose words stand from start up to end.
+fn entries(f: Frame, words: &[Word], start: usize, end: usize, free: &mut Marks) -> bool
+    requires { ⌜ (boundsOk (frameOf f (now words)) ≡ true) × (start ≤ end) × (end ≤ length (now words)) ⌝ }
+    ensures { λ r. ⌜ scanned r (now (free .exit)) ≡ scanRun (wordStep (frameOf f (now (words .entry))) (now (words .entry)) start) (now (free .entry)) (end - start) 0 ⌝ }
 {
-    for b in 0..count {
-        if !entry(f, words, word::decode(words[at + b]), free) {
+    for i in start..end {
+        if !entry(f, words, word::decode(words[i]), free) {
             return false;
         }
     }
     true
+}
+
+// If so, these are the bits of an entry of the "1G" types, or of several such entries together.
+fn is_flat(bits: u64) -> bool
+    ensures { λ r. ⌜ (r ≡ true → FlatWord board bits) ⌝ }
+{
+    if bits % TYPE_UNIT == 0 {
+        return bits / TYPE_UNIT < PERMISSIONS;
+    }
+    false
+}
+
+// If so, all entries of a GiB are of the "1G" types, which name no page: their words are gathered by `|` and tested once. In a GiB of the finished
+// form all are, or not even the first.
+fn all_flat(words: &[Word], at: usize) -> bool
+    requires { ⌜ at + gibBlocks ≤ length (now words) ⌝ }
+    ensures { λ r. ⌜ (r ≡ true → (i : ℕ) → i < gibBlocks → FlatWord board (getD (now (words .entry)) (at + i) 0)) ⌝ }
+{
+    if !is_flat(wide(words[at])) {
+        return false;
+    }
+    let mut all: u64 = 0;
+    for i in 0..GIB {
+        all |= wide(words[at + i]);
+    }
+    is_flat(all)
+}
+
+// The entries of the GiB whose words start at at: they are looked at one by one where they are not all of the "1G" types.
+fn gib(f: Frame, words: &[Word], at: usize, free: &mut Marks) -> bool
+    requires { ⌜ (boundsOk (frameOf f (now words)) ≡ true) × (at + gibBlocks ≤ length (now words)) ⌝ }
+    ensures { λ r. ⌜ scanned r (now (free .exit)) ≡ scanRun (wordStep (frameOf f (now (words .entry))) (now (words .entry)) at) (now (free .entry)) gibBlocks 0 ⌝ }
+{
+    if all_flat(words, at) {
+        return true;
+    }
+    entries(f, words, at, at + GIB, free)
+}
+
+// The same for whole GiBs, one at the least. The loop asks at its end, so that it is compiled without a question at its start.
+fn gibs(f: Frame, words: &[Word], start: usize, end: usize, free: &mut Marks) -> bool
+    requires { ⌜ (boundsOk (frameOf f (now words)) ≡ true) × (start < end) × ((end - start) % gibBlocks ≡ 0) × (end ≤ length (now words)) ⌝ }
+    ensures { λ r. ⌜ scanned r (now (free .exit)) ≡ scanRun (wordStep (frameOf f (now (words .entry))) (now (words .entry)) start) (now (free .entry)) (end - start) 0 ⌝ }
+{
+    let mut at = start;
+    loop {
+        if !gib(f, words, at, free) {
+            return false;
+        }
+        at += GIB;
+        if at == end {
+            return true;
+        }
+    }
 }
 
 // A root: the page itself, then "The first 2^(PAW-25) entries of each root"; "the rest of the page is never read".
@@ -95,7 +156,7 @@ fn root(f: Frame, words: &[Word], page: PageNumber, free: &mut Marks) -> bool
     if claim(f, words.len(), page, free) {
         let count = lent::block_count(f, words.len());
         let at = lent::page_at(f, words, page);
-        return entries(f, words, at, count, free);
+        return gibs(f, words, at, at + count, free);
     }
     false
 }

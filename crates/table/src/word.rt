@@ -24,7 +24,7 @@ pub const FIELD_VALUES: u64 = 16;
 
 pub const PERMISSION_BITS: u64 = 2;
 
-const PERMISSIONS: u64 = 4;
+pub const PERMISSIONS: u64 = 4;
 
 // What an L2 entry says. TYPE is taken with ZERO above it: a number above 7 is no type. The page number of an L1 page is all of INFO.
 pub fn decode(word: Word) -> Entry
