@@ -4,8 +4,10 @@
 
 #define TYPE(type, info) ((uint64_t)(type) << 44 | (info))
 #define UNIFORM(permission) ((permission) * UINT64_C(0x1111111111111111))
-/* Pieces of all four permissions; the check takes longest for a TYPE 6 entry, but for one with an L1 page. */
+/* Pieces of all four permissions; the check takes longest for a TYPE 6 entry, but for one with an L1 page. And a GiB takes it longest if only its
+ * first entry is of a 1G type: then all are gathered, and all are looked at too. */
 #define MIXED_PIECES TYPE(6, UINT64_C(0xe4e4e4e4))
+#define SLOWEST(block) ((block) % 32 ? MIXED_PIECES : TYPE(RW, 0))
 
 const struct table largest = {34, FIRST, LARGEST_PAGES, TABLE, KEPT->slots};
 static uint64_t next_page; /* the next page that is not in use */
@@ -34,7 +36,7 @@ void open_roots(uint64_t count)
     for (uint64_t slot = 0; slot < 8; slot++) {
         KEPT->slots[slot] = slot < count ? REGISTER(slot, FIRST + slot) : 0;
         for (int k = 0; slot < count && k < PAGE_ENTRIES; k++)
-            page_words(slot)[k] = MIXED_PIECES;
+            page_words(slot)[k] = SLOWEST(k);
     }
     next_page = count;
 }

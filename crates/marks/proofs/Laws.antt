@@ -16,7 +16,7 @@ use Rattle.marks.specs.Marks.{markAt, unmark, allMarks}
 
 -- ---- the marks of a word
 
-pub mark-in : (marks : List ℕ) (i j k : ℕ) → k ≡ 64 * i + j → j < 64 → markAt marks k ≡ eqb (digit 2 (getD marks i 0) j) 1
+mark-in : (marks : List ℕ) (i j k : ℕ) → k ≡ 64 * i + j → j < 64 → markAt marks k ≡ eqb (digit 2 (getD marks i 0) j) 1
 unfolding markAt
 mark-in marks i j k e h =
     let word : k / 64 ≡ i = omega arith in
@@ -24,7 +24,7 @@ mark-in marks i j k e h =
     ap₂ (λ (x y : ℕ). eqb (digit 2 (getD marks x 0) y) 1) word bit
 
 -- a mark whose bit is not set does not stand
-pub clear-bit : (marks : List ℕ) (i j k : ℕ) → k ≡ 64 * i + j → j < 64 → digit 2 (getD marks i 0) j ≡ 0 → markAt marks k ≡ false
+clear-bit : (marks : List ℕ) (i j k : ℕ) → k ≡ 64 * i + j → j < 64 → digit 2 (getD marks i 0) j ≡ 0 → markAt marks k ≡ false
 clear-bit marks i j k e h z = mark-in marks i j k e h ∙ ap (λ (x : ℕ). eqb x 1) z
 
 pub clear-word : (marks : List ℕ) (i k : ℕ) → getD marks i 0 ≡ 0 → 64 * i ≤ k → k < 64 * i + 64 → markAt marks k ≡ false

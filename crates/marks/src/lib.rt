@@ -1,35 +1,33 @@
 // Marks, one bit each: a mark that stands says that a page, or an SDID, is free.
 use types::bits::pow2;
 ghost use mathlib.Core.Path.{_≡_};
-ghost use mathlib.Core.Bool.{true, false};
-ghost use Prim.Native.Nat.{ℕ, _≤_, _<_};
-ghost use Rattle.model.specs.Numbers.{digit};
-ghost use Rattle.marks.specs.Marks.{markAt, unmark, noMarks, allMarks};
+ghost use Prim.Native.Nat.{_<_};
+ghost use Rattle.marks.specs.Marks.{MARKS, markAt, unmark, noMarks, allMarks, LowestBit, Lowest};
 
-// 256 marks, 64 to a word, the lowest first: no frame lends more pages, and there are 64 SDIDs.
+// 256 marks, the lowest first: no frame lends more pages, and there are 64 SDIDs.
 pub type Marks = [u64; 4];
 
 const WORDS: usize = 4;
 
 const WORD_MARKS: usize = 64;
 
-// None of them stands.
+// None of them stands: what a call lends to the check, which then makes the marks.
 pub fn no_marks() -> Marks
     ensures { λ r. ⌜ r ≡ noMarks ⌝ }
 {
-    [0; 4]
+    [0; WORDS]
 }
 
 // All of them stand.
 pub fn all_marks() -> Marks
     ensures { λ r. ⌜ r ≡ allMarks ⌝ }
 {
-    [0xFFFF_FFFF_FFFF_FFFF; 4]
+    [0xFFFF_FFFF_FFFF_FFFF; WORDS]
 }
 
 // Takes mark i away, and says whether it stood.
 pub fn take(marks: &mut Marks, i: usize) -> bool
-    requires { ⌜ i < 256 ⌝ }
+    requires { ⌜ i < MARKS ⌝ }
     ensures { λ r. ⌜ (r ≡ markAt (now (marks .entry)) i) × (now (marks .exit) ≡ unmark (now (marks .entry)) i) ⌝ }
 {
     let at = i / WORD_MARKS;
@@ -45,14 +43,14 @@ pub fn take(marks: &mut Marks, i: usize) -> bool
 // The lowest set bit of a word that has one.
 fn lowest_bit(word: u64) -> usize
     requires { ⌜ 0 < word ⌝ }
-    ensures { λ r. ⌜ (r < 64) × (digit 2 word r ≡ 1) × ((k : ℕ) → k < r → digit 2 word k ≡ 0) ⌝ }
+    ensures { λ r. ⌜ LowestBit word r ⌝ }
 {
     u64::trailing_zeros(word) as usize
 }
 
 // The lowest mark that stands; 256 if none does.
 pub fn lowest(marks: &Marks) -> usize
-    ensures { λ r. ⌜ (r ≤ 256) × ((k : ℕ) → k < r → markAt (now (marks .entry)) k ≡ false) × (r < 256 → markAt (now (marks .entry)) r ≡ true) ⌝ }
+    ensures { λ r. ⌜ Lowest (now (marks .entry)) r ⌝ }
 {
     for i in 0..WORDS {
         let word = marks[i];

@@ -1,8 +1,8 @@
 -- What callers use: a lent page of a sound table is marked exactly when it is free; free pages are lent.
 use mathlib.Core.Path.{_≡_, refl, sym, ap, ap₂, _∙_}
 use mathlib.Core.Bool.{Bool, true, false, not, _&&_, _||_, true≢false}
-use mathlib.Core.List.{List, [], _∷_, _++_, map, headD, tail}
-use Prim.Native.Nat.{ℕ, zero, suc, _+_, _-_, _≤_, _<_}
+use mathlib.Core.List.{List, [], _∷_, _++_, map, headD}
+use Prim.Native.Nat.{ℕ, zero, suc, _+_, _≤_, _<_}
 use native.Mathlib.Omega.{arith}
 use lib.Dec.{eqb}
 use lib.ListN.{length}
@@ -16,7 +16,7 @@ use Rattle.laws.proofs.Lists.{each-step, each-append, member-step, joined-cong}
 use Rattle.marks.specs.Marks.{Marks, allMarks}
 use Rattle.scan.specs.FreeMarks.{markedPages}
 use Rattle.scan.specs.Admission.{MarkedFree}
-use Rattle.scan.proofs.Marks.{unmarkAll}
+use Rattle.scan.proofs.Claims.{unmarkAll}
 use Rattle.scan.proofs.UsedPages.{place, used-lent, stands-unless-used}
 
 -- ---- a free page is lent
@@ -40,16 +40,11 @@ free-lent F used = joined-lent F _ (F .pages) (F .first) (λ page low high. go p
     go page true h = refl
     go page false h = each-step (lent F) page [] ∙ ap (λ (b : Bool). b && true) h
 
--- and so is the lowest, if there is one, and each of the others
+-- and so is the lowest, if there is one
 pub head-lent : (F : Frame) (pages : List ℕ) → eqb (length pages) 0 ≡ false → each (lent F) pages ≡ true → lent F (headD pages 0) ≡ true
 unfolding headD
 head-lent F [] some h = absurd (true≢false some)
 head-lent F (page ∷ pages) some h = and-true (lent F page) (each (lent F) pages) (sym (each-step (lent F) page pages) ∙ h) .0
-
-pub tail-lent : (F : Frame) (pages : List ℕ) → each (lent F) pages ≡ true → each (lent F) (tail pages) ≡ true
-unfolding each
-tail-lent F [] h = refl
-tail-lent F (page ∷ pages) h = and-true (lent F page) (each (lent F) pages) (sym (each-step (lent F) page pages) ∙ h) .1
 
 -- ---- a lent page is among the free exactly when it is not in use
 
@@ -82,7 +77,7 @@ module _ (taken : ℕ → Bool) where
       there e true rest = rest
       there e false rest = member-step page s (kept n (suc s)) ∙ ap₂ _||_ e rest
 
-pub free-member : (F : Frame) (used : List ℕ) (page : ℕ) → lent F page ≡ true → member page (freeOf F used) ≡ not (member page used)
+free-member : (F : Frame) (used : List ℕ) (page : ℕ) → lent F page ≡ true → member page (freeOf F used) ≡ not (member page used)
 unfolding freeOf kept
 free-member F used page h = let b = lent-in F page h in kept-member (λ page. member page used) (F .pages) (F .first) page (b .0) (b .1)
 
@@ -93,7 +88,7 @@ module _ (F : Frame) (m : List ℕ) (slots : List Slot) (ok : sound F m slots �
   unfolding sound soundTable
   all-lent = used-lent F m (roots F slots) (and-true _ _ (and-true (soundSlots F slots) _ ok .1) .0)
 
-  -- document 02, item 4: "each lent page of a sound table is marked exactly when it is free"
+  -- what is left of the marks once the pages in use have lost theirs
   pub marked-exactly-when-free : MarkedFree F m slots (unmarkAll allMarks (map (place F) (used F m (roots F slots))))
   unfolding freePages
   marked-exactly-when-free page h =

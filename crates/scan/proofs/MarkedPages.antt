@@ -11,7 +11,11 @@ use Rattle.model.specs.Numbers.{if_then_else_, joined}
 use Rattle.laws.proofs.Choices.{and-true}
 use Rattle.marks.specs.Marks.{Marks, markAt, unmark}
 use Rattle.marks.proofs.Laws.{unmark-others}
-use Rattle.scan.specs.FreeMarks.{markedAt, withPage}
+use Rattle.scan.specs.FreeMarks.{markedAt}
+
+-- one page more, below the others, if it is marked
+abbrev withPage : Bool → ℕ → List ℕ → List ℕ
+withPage marked page pages = if marked then page ∷ pages else pages
 
 module _ (k : Marks) (first pages : ℕ) where
   -- the marked pages among n from place i
@@ -58,7 +62,7 @@ module _ (k : Marks) (first pages : ℕ) where
         ∙ ap (λ (x : ℕ). markedFrom (pages - x) x) u
         ∙ ap (λ (x : ℕ). markedFrom x pages) v
 
-    -- a page that stands there heads the list
+    -- a mark that stands there: its page heads the list
     pub marked-next : i ≤ r → r < pages → markAt k r ≡ true → markedFrom (pages - i) i ≡ (first + r) ∷ markedFrom (pages - (r + 1)) (r + 1)
     marked-next lo h z =
         let t : i + (r - i) ≡ r = omega arith in

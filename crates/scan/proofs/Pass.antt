@@ -2,7 +2,7 @@
 use mathlib.Core.Path.{_≡_, refl, sym, ap, ap₂, _∙_}
 use mathlib.Core.Bool.{Bool, true, false, _&&_, false≢true}
 use mathlib.Core.List.{List, [], _∷_, _++_, map, map-append}
-use Prim.Native.Nat.{ℕ, zero, suc, _≤_, _<_}
+use Prim.Native.Nat.{ℕ, zero, suc, _≤_}
 use native.Mathlib.Nat.{mod-lt, lt-of-lt-of-le}
 use native.Mathlib.Omega.{arith}
 use lib.Dec.{eqb, ltb, lit<, lit≤}
@@ -19,7 +19,7 @@ use Rattle.laws.proofs.FrameNumbers.{bounds}
 use Rattle.marks.specs.Marks.{Marks, allMarks}
 use Rattle.scan.specs.Scan.{Scan, unsound, marked, scanned, thenScan, scanAll, takeMark, registerStep, claimOf, linkStep, entryStep, blockStep, rootStep, slotStep}
 use Rattle.scan.proofs.Loops.{then-marked}
-use Rattle.scan.proofs.Marks.{claimAll, then-unsound, then-same, spread, all-claims, run-claims, unmarkAll, claims}
+use Rattle.scan.proofs.Claims.{claimAll, then-unsound, then-same, spread, all-claims, run-claims, unmarkAll, claims}
 use Rattle.scan.proofs.UsedPages.{place, used-lent, place-distinct, places-low}
 
 -- a pass over all slots is one over the registers of the open ones
@@ -43,7 +43,7 @@ pass-mapped step f [] k = refl
 pass-mapped step f (x ∷ xs) k = then-same (step k (f x)) _ _ (λ o. pass-mapped step f xs o)
 
 -- a test within a test
-pub if-and : (a b : Bool) (s : Scan) → (if a then (if b then s else unsound) else unsound) ≡ (if a && b then s else unsound)
+if-and : (a b : Bool) (s : Scan) → (if a then (if b then s else unsound) else unsound) ≡ (if a && b then s else unsound)
 if-and true b s = refl
 if-and false b s = refl
 

@@ -17,7 +17,7 @@ use Rattle.laws.proofs.Lists.{each-step, each-append, member-step, distinct-ste
 use Rattle.laws.proofs.FrameNumbers.{lent-in}
 use Rattle.marks.specs.Marks.{markAt, allMarks}
 use Rattle.marks.proofs.Laws.{all-stand}
-use Rattle.scan.proofs.Marks.{unmarkAll, stands-after}
+use Rattle.scan.proofs.Claims.{unmarkAll, stands-after}
 
 -- each member of joined lists passes, if each list's members do where its number passes
 joined-each : (test guard : ℕ → Bool) (f : ℕ → List ℕ) → ((b : ℕ) → guard b ≡ true → each test (f b) ≡ true)

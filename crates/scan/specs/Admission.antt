@@ -16,7 +16,7 @@ module _ (F : Frame) (m : List ℕ) (slots : List Slot) where
   unfoldable pub admissionOf : Admission
   admissionOf = if frameOk F m then (if sound F m slots then Granted else Refused refusal.NotSound) else Refused refusal.Frame
 
-  -- document 02, item 4: "each lent page of a sound table is marked exactly when it is free"
+  -- document 02, item 4: "each lent page of a sound table is marked exactly when it is free". (That the table is sound is said where this is used.)
   abbrev pub MarkedFree : Marks → Type 0
   MarkedFree marks = (page : ℕ) → lent F page ≡ true → markAt marks (page - F .first) ≡ member page (freePages F m (roots F slots))
 

@@ -1,5 +1,4 @@
 -- The free pages by the marks alone.
-use mathlib.Core.Bool.{Bool}
 use mathlib.Core.List.{List, [], _∷_, headD, tail}
 use Prim.Native.Nat.{ℕ, _-_}
 use lib.ListN.{length, take}
@@ -18,7 +17,3 @@ markedPages F marks = joined (markedAt (F .first) marks) (F .pages) (F .first)
 -- how many pages there are, up to two, and the first two; 0 stands for one that there is not
 abbrev pub listed : List ℕ → Free
 listed pages = record { count = length (take 2 pages); first = record { 0 = headD pages 0 }; second = record { 0 = headD (tail pages) 0 } }
-
--- one page more, below the others, if it is marked
-abbrev pub withPage : Bool → ℕ → List ℕ → List ℕ
-withPage marked page pages = if marked then page ∷ pages else pages

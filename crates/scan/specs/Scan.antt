@@ -1,10 +1,8 @@
--- The pass over a table as the code makes it: a page that is met loses its mark, and one that has none is met twice. The contracts of the
--- pass cite this.
-use mathlib.Core.Path.{_≡_}
-use mathlib.Core.Bool.{Bool, true, false}
+-- The pass over a table: a page that is met loses its mark, and one that has lost it was met before. The contracts of `sound` cite this.
+use mathlib.Core.Bool.{Bool, true, false, _&&_}
 use mathlib.Core.List.{List, [], _∷_}
-use Prim.Native.Nat.{ℕ, zero, suc, _+_, _-_, _/_, _%_, _^_, _<_}
-use lib.Dec.{eqb}
+use Prim.Native.Nat.{ℕ, zero, suc, _+_, _-_, _/_, _%_, _^_}
+use lib.Dec.{eqb, ltb}
 use lib.ListN.{getD}
 use Rattle.model.specs.Numbers.{if_then_else_}
 use Rattle.model.specs.Layout.{Layout}
@@ -43,8 +41,8 @@ unfoldable pub takeMark : Marks → ℕ → Scan
 takeMark marks i = scanned (markAt marks i) (unmark marks i)
 
 -- an L2 entry of the "1G" types, by its word: TYPE below 4, ZERO and INFO zero
-abbrev pub FlatWord : Layout → ℕ → Type 0
-FlatWord L w = (w / 2 ^ L .infoBits < 4) × (w % 2 ^ L .infoBits ≡ 0)
+unfoldable pub flatWord : Layout → ℕ → Bool
+flatWord L w = ltb (w / 2 ^ L .infoBits) 4 && eqb (w % 2 ^ L .infoBits) 0
 
 -- a slot's register: "MODE 1, WPRI zero, distinct SDIDs". A mark for each SDID that was not met before
 unfoldable pub registerStep : Layout → Marks → Slot → Scan

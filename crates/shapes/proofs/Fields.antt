@@ -6,9 +6,7 @@ use Prim.Native.Nat.{ℕ, zero, suc, _+_, _*_, _-_, _/_, _^_, _≤_, _<_}
 use native.Mathlib.Nat.{mul-zero, mul-suc, mul-add, add-mul, mul-assoc, mul-one, one-mul, suc-mul, pow-zero, pow-suc, pow-succ', lt-of-lt-of-le, pow-le-pow-right, mul-div-cancel, le-div-iff-mul-le, div-lt-iff-lt-mul}
 use native.Mathlib.Omega.{arith}
 use native.Mathlib.Numerals.{add-one}
-use lib.Dec.{eqb}
 use lib.Pow.{pow-add}
-use borrow.Author.Tests.{eqb-true, eqb-false, eq-eqb, ne-eqb}
 use Rattle.model.specs.Layout.{Layout}
 use Rattle.shapes.specs.Words.{ones, mixedAt}
 use Rattle.laws.proofs.Choices.{split, and-both}

@@ -1,4 +1,5 @@
-// The whole-table check: one pass, each entry read once. A page that it meets loses its mark, so that in a sound table just the free pages keep theirs.
+// The whole-table check: one pass, root by root and GiB by GiB. A page that it meets loses its mark, so that in a sound table just the free pages
+// keep theirs.
 pub mod pick;
 
 use marks::Marks;
@@ -21,7 +22,7 @@ use types::Refusal;
 use types::pages::GIB_BLOCKS;
 ghost use mathlib.Core.Path.{_≡_};
 ghost use mathlib.Core.Bool.{true};
-ghost use Prim.Native.Nat.{ℕ, _+_, _-_, _%_, _≤_, _<_};
+ghost use Prim.Native.Nat.{_+_, _-_, _%_, _≤_, _<_};
 ghost use lib.ListN.{length, getD};
 ghost use Rattle.model.specs.Numbers.{every};
 ghost use Rattle.model.specs.Entry as entry;
@@ -30,10 +31,10 @@ ghost use Rattle.model.specs.Layout.{gibBlocks};
 ghost use Rattle.table.specs.Board.{board, frameOver, frameOf};
 ghost use Rattle.types.specs.Views.{entryOf};
 ghost use Rattle.scan.specs.Admission.{AdmissionIs};
-ghost use Rattle.scan.specs.Scan.{FlatWord, scanned, scanAll, scanRun, claimOf, linkStep, entryStep, wordStep, rootStep, slotStep, registerStep};
+ghost use Rattle.scan.specs.Scan.{flatWord, scanned, scanAll, scanRun, claimOf, linkStep, entryStep, wordStep, rootStep, slotStep, registerStep};
 
-// The blocks of a GiB.
-const GIB: usize = GIB_BLOCKS as usize;
+// The entries of a GiB, one word each.
+const GIB_WORDS: usize = GIB_BLOCKS as usize;
 
 // "all reserved bits in it are zero": the words are gathered by `|` and tested once.
 fn clean(words: &[Word], at: usize) -> bool
@@ -47,7 +48,7 @@ fn clean(words: &[Word], at: usize) -> bool
     all & RESERVED == 0
 }
 
-// Takes a page's mark, if it is lent and was not met before.
+// A page is lent and was not met before: then it loses its mark.
 fn claim(f: Frame, n: usize, page: PageNumber, free: &mut Marks) -> bool
     requires { ⌜ boundsOk (frameOver f n) ≡ true ⌝ }
     ensures { λ r. ⌜ scanned r (now (free .exit)) ≡ claimOf (frameOver f n) (now (free .entry)) (page .0) ⌝ }
@@ -94,33 +95,33 @@ fn entries(f: Frame, words: &[Word], start: usize, end: usize, free: &mut Marks)
     true
 }
 
-// If so, these are the bits of an entry of the "1G" types, or of several such entries together.
+// An entry of the "1G" types, by its bits; or several that are gathered by `|`, if each of them is one.
 fn is_flat(bits: u64) -> bool
-    ensures { λ r. ⌜ (r ≡ true → FlatWord board bits) ⌝ }
+    ensures { λ r. ⌜ r ≡ flatWord board bits ⌝ }
 {
-    if bits % TYPE_UNIT == 0 {
-        return bits / TYPE_UNIT < PERMISSIONS;
+    if bits / TYPE_UNIT < PERMISSIONS {
+        return bits % TYPE_UNIT == 0;
     }
     false
 }
 
-// If so, all entries of a GiB are of the "1G" types, which name no page: their words are gathered by `|` and tested once. In a GiB of the finished
-// form all are, or not even the first.
+// All entries of a GiB are of the "1G" types, which name no page: they are gathered and tested once. In the finished form all are, or not even the
+// first.
 fn all_flat(words: &[Word], at: usize) -> bool
     requires { ⌜ at + gibBlocks ≤ length (now words) ⌝ }
-    ensures { λ r. ⌜ (r ≡ true → (i : ℕ) → i < gibBlocks → FlatWord board (getD (now (words .entry)) (at + i) 0)) ⌝ }
+    ensures { λ r. ⌜ r ≡ every (λ i. flatWord board (getD (now (words .entry)) (at + i) 0)) gibBlocks 0 ⌝ }
 {
     if !is_flat(wide(words[at])) {
         return false;
     }
     let mut all: u64 = 0;
-    for i in 0..GIB {
+    for i in 0..GIB_WORDS {
         all |= wide(words[at + i]);
     }
     is_flat(all)
 }
 
-// The entries of the GiB whose words start at at: they are looked at one by one where they are not all of the "1G" types.
+// The entries of the GiB that begins at word at: one by one, where they are not all of the "1G" types.
 fn gib(f: Frame, words: &[Word], at: usize, free: &mut Marks) -> bool
     requires { ⌜ (boundsOk (frameOf f (now words)) ≡ true) × (at + gibBlocks ≤ length (now words)) ⌝ }
     ensures { λ r. ⌜ scanned r (now (free .exit)) ≡ scanRun (wordStep (frameOf f (now (words .entry))) (now (words .entry)) at) (now (free .entry)) gibBlocks 0 ⌝ }
@@ -128,10 +129,10 @@ fn gib(f: Frame, words: &[Word], at: usize, free: &mut Marks) -> bool
     if all_flat(words, at) {
         return true;
     }
-    entries(f, words, at, at + GIB, free)
+    entries(f, words, at, at + GIB_WORDS, free)
 }
 
-// The same for whole GiBs, one at the least. The loop asks at its end, so that it is compiled without a question at its start.
+// The same for whole GiBs, one at the least: so the loop tests at its end alone, and a compiler has no empty root to think of.
 fn gibs(f: Frame, words: &[Word], start: usize, end: usize, free: &mut Marks) -> bool
     requires { ⌜ (boundsOk (frameOf f (now words)) ≡ true) × (start < end) × ((end - start) % gibBlocks ≡ 0) × (end ≤ length (now words)) ⌝ }
     ensures { λ r. ⌜ scanned r (now (free .exit)) ≡ scanRun (wordStep (frameOf f (now (words .entry))) (now (words .entry)) start) (now (free .entry)) (end - start) 0 ⌝ }
@@ -141,7 +142,7 @@ fn gibs(f: Frame, words: &[Word], start: usize, end: usize, free: &mut Marks) ->
         if !gib(f, words, at, free) {
             return false;
         }
-        at += GIB;
+        at += GIB_WORDS;
         if at == end {
             return true;
         }

@@ -2,7 +2,7 @@
 use mathlib.Core.Path.{_≡_, refl}
 use mathlib.Core.Bool.{Bool, true, false}
 use mathlib.Core.List.{List}
-use Prim.Native.Nat.{ℕ, _+_, _-_, _*_, _≤_, _<_}
+use Prim.Native.Nat.{ℕ, _-_, _*_, _≤_, _<_}
 use native.Mathlib.Omega.{arith}
 use lib.Dec.{ltb}
 use denote.Ref.{now}
@@ -43,18 +43,19 @@ mul-result : tie.Need-mul-result Inv-loop μ-loop
 mul-result c = omega arith
 
 add-result : tie.Need-add-result Inv-loop μ-loop
-add-result c = omega (arith, c .lowest-bit .ensures .0)
+add-result c = omega (arith, c .lowest-bit .ensures .within)
 
 returns : tie.Need-returns Inv-loop μ-loop
 returns c =
     let l = c .before .before .before .before in
     let m = now (l .before .args .marks) in
     let i = l .loop .i in
-    let low = c .lowest-bit .ensures in (
-      omega (arith, low .0, c .before .before .before .loop-test .taken),
-      passed m i (l .loop .inv .1) _ (none-below m i _ (low .0) (low .2)),
-      λ h. lowest-stands m i _ (low .0) (low .1),
-    )
+    let low = c .lowest-bit .ensures in
+    record {
+      within = omega (arith, low .within, c .before .before .before .loop-test .taken);
+      isMarked = λ h. lowest-stands m i _ (low .within) (low .isSet);
+      below = passed m i (l .loop .inv .1) _ (none-below m i _ (low .within) (low .below));
+    }
 
 add-i : tie.Need-add-i Inv-loop μ-loop
 add-i c = omega arith
@@ -73,7 +74,7 @@ mul-result-2 : tie.Need-mul-result-2 Inv-loop μ-loop
 mul-result-2 c = omega arith
 
 returns-2 : tie.Need-returns-2 Inv-loop μ-loop
-returns-2 c = (omega arith, λ k h. c .before .loop .inv .1 k (omega (arith, c .loop-test .left)), λ h. absurd (omega arith))
+returns-2 c = record { within = omega arith; isMarked = λ h. absurd (omega arith); below = λ k h. c .before .loop .inv .1 k (omega (arith, c .loop-test .left)) }
 
 pub lowest-spec : {M : Type 1} → statement M
 lowest-spec =

@@ -1,6 +1,6 @@
 -- `marks::lowest_bit` meets its contract: the lowest set digit is behind the zeros at the word's end.
 use mathlib.Core.Path.{_≡_}
-use Prim.Native.Nat.{ℕ, _<_}
+use Prim.Native.Nat.{_<_}
 use native.Mathlib.Omega.{arith}
 use lib.Count.{trailingZeros}
 use Rattle.model.specs.Numbers.{digit}
@@ -15,7 +15,7 @@ cast-result : tie.Need-cast-result
 cast-result c = omega (arith, found c .0)
 
 returns : tie.Need-returns
-returns c = (found c .0, found c .1, λ k h. lowest-below 64 (c .args .word) k h)
+returns c = record { within = found c .0; isSet = found c .1; below = λ k h. lowest-below 64 (c .args .word) k h }
 
 pub lowest-bit-spec : {M : Type 1} → statement M
 lowest-bit-spec = tie.close (tie.spec cast-result returns)

@@ -5,7 +5,6 @@ use Prim.Native.Nat.{ℕ}
 use denote.Ref.{now}
 use borrow.Author.Needs.{needs}
 use Rattle.model.specs.Frame.{Frame}
-use Rattle.model.specs.Sound.{sound}
 use Rattle.model.specs.Forms.{Request}
 use Rattle.model.specs.Calls.{refuse, editSlot}
 use Rattle.types.specs.Views.{permissionNumber}

@@ -16,7 +16,7 @@ use Rattle.marks.specs.Marks.{allMarks}
 use Rattle.scan.specs.Admission.{admissionOf, MarkedFree}
 use Rattle.scan.proofs.Admissions.{refused-not-granted}
 use Rattle.scan.proofs.Laws.{marked-exactly-when-free}
-use Rattle.scan.proofs.Marks.{unmarkAll}
+use Rattle.scan.proofs.Claims.{unmarkAll}
 use Rattle.scan.proofs.Pass.{registers-said, tables-said}
 use Rattle.scan.proofs.UsedPages.{place}
 use Rattle.sound.proofs.admit.Statement.{statement}

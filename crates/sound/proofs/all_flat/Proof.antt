@@ -1,35 +1,31 @@
--- `sound::all_flat` meets its contract: the invariant: if what was gathered passes for one such entry, each that was gathered is one.
-use mathlib.Core.Path.{_≡_, refl, sym, ap, _∙_, subst}
-use mathlib.Core.Bool.{Bool, true, false, false≢true}
+-- `sound::all_flat` meets its contract: the invariant: what was gathered, and the rest of the GiB, decide the whole.
+use mathlib.Core.Path.{_≡_, refl, sym, ap, _∙_}
+use mathlib.Core.Bool.{Bool, false, _&&_}
 use mathlib.Core.List.{List}
 use Prim.Native.Nat.{ℕ, _+_, _-_, _≤_, _<_}
+use native.Mathlib.Nat.{add-zero}
 use native.Mathlib.Omega.{arith}
 use borrow.Author.Needs.{needs}
-use borrow.Author.Tests.{eqb-true, eqb-false}
-use lib.Bits.{bitOr}
-use lib.Dec.{eqb}
-use lib.ListN.{getD}
+use borrow.Author.Tests.{not-true}
 use denote.Ref.{now}
+use lib.Bits.{bitOr}
+use lib.ListN.{getD}
 use Rattle.model.specs.Layout.{gibBlocks}
-use Rattle.scan.specs.Scan.{FlatWord}
-use Rattle.scan.proofs.FlatEntries.{flat-both}
+use Rattle.model.specs.Numbers.{every}
+use Rattle.laws.proofs.Choices.{and-alone}
+use Rattle.laws.proofs.Every.{every-step, every-next, every-none}
+use Rattle.scan.specs.Scan.{flatWord}
+use Rattle.scan.proofs.FlatEntries.{flat-gathered}
 use Rattle.table.specs.Board.{board}
 use Rattle.sound.proofs.all_flat.Statement.{statement}
 use Rattle.sound.proofs.all_flat.Tie as tie
 
--- the first i entries from at on
-abbrev Flats : List ℕ → ℕ → ℕ → Type 0
-Flats m at i = (j : ℕ) → j < i → FlatWord board (getD m (at + j) 0)
-
-one-more : (m : List ℕ) (at i all w : ℕ) → (FlatWord board all → Flats m at i) → w ≡ getD m (at + i) 0 → FlatWord board (bitOr all w) → Flats m at (i + 1)
-one-more m at i all w known e h j l = go (eqb j i) refl
-  where
-    go : (b : Bool) → eqb j i ≡ b → FlatWord board (getD m (at + j) 0)
-    go true z = subst (FlatWord board) (e ∙ ap (λ (k : ℕ). getD m (at + k) 0) (sym (eqb-true j i z))) (flat-both board all w h .1)
-    go false z = let ne = eqb-false j i z in known (flat-both board all w h .0) j (omega (arith, l, ne))
+-- an entry of the GiB
+abbrev test : List ℕ → ℕ → ℕ → Bool
+test m at i = flatWord board (getD m (at + i) 0)
 
 abbrev Inv-loop : tie.InvT-loop
-Inv-loop words at all₀ i₀ all i = (i ≤ gibBlocks) × (FlatWord board all → Flats words at i)
+Inv-loop words at all₀ i₀ all i = (i ≤ gibBlocks) × (every (test words at) gibBlocks 0 ≡ (flatWord board all && every (test words at) (gibBlocks - i) i))
 
 abbrev μ-loop : tie.MeasureT-loop
 μ-loop words at all₀ i₀ all i = gibBlocks - i
@@ -47,10 +43,16 @@ is-flat-requires : tie.Need-is-flat-requires Inv-loop μ-loop
 is-flat-requires c κs = search needs
 
 returns : tie.Need-returns Inv-loop μ-loop
-returns c h = absurd (false≢true h)
+returns c =
+    let k = c .before in
+    let a = k .before .before .before .before .args in
+    let first : test (now (a .words)) (a .at) 0 ≡ false = ap (λ (n : ℕ). flatWord board (getD (now (a .words)) n 0)) (add-zero (a .at))
+    ∙ ap (flatWord board) (sym (k .before .wide .ensures .0)) ∙ sym (k .is-flat .ensures) ∙ not-true (k .is-flat .result) (c .if1 .taken) in
+    sym (every-step (test (now (a .words)) (a .at)) 31 0 ∙ ap (λ (b : Bool). b && every (test (now (a .words)) (a .at)) 31 1) first)
 
 loop-holds : tie.Need-loop-holds Inv-loop μ-loop
-loop-holds c = (omega arith, λ h j l. absurd (omega arith))
+unfolding flatWord
+loop-holds c = (omega arith, refl)
 
 add-wide : tie.Need-add-wide Inv-loop μ-loop
 add-wide c = omega arith
@@ -74,15 +76,29 @@ loop-again : tie.Need-loop-again Inv-loop μ-loop
 loop-again c =
     let l = c .before .before .before in
     let a = l .before .before .before .before .before .before .args in
-    (omega arith, one-more (now (a .words)) (a .at) (l .loop .i) (l .loop .all) (c .wide2 .result) (l .loop .inv .1) (c .wide2 .ensures .0))
+    let m = now (a .words) in
+    let h : l .loop .i < gibBlocks = omega arith in
+    let rest : Bool = every (test m (a .at)) (gibBlocks - (l .loop .i + 1)) (l .loop .i + 1) in (
+      omega arith,
+      l .loop .inv .1
+          ∙ ap (λ (b : Bool). flatWord board (l .loop .all) && b) (every-next (test m (a .at)) gibBlocks (l .loop .i) h)
+          ∙ flat-gathered board (l .loop .all) (getD m (a .at + l .loop .i) 0) rest
+          ∙ ap (λ (x : ℕ). flatWord board (bitOr (l .loop .all) x) && rest) (sym (c .wide2 .ensures .0)),
+    )
 
 is-flat-requires-2 : tie.Need-is-flat-requires-2 Inv-loop μ-loop
 is-flat-requires-2 c κs = search needs
 
 returns-2 : tie.Need-returns-2 Inv-loop μ-loop
-returns-2 c h =
+returns-2 c =
     let l = c .before .before in
-    λ j u. l .loop .inv .1 (c .is-flat2 .ensures h) j (omega (arith, u, c .before .loop-test .left))
+    let a = l .before .before .before .before .before .before .args in
+    let m = now (a .words) in
+    let h : gibBlocks ≤ l .loop .i = omega (arith, c .before .loop-test .left) in
+    c .is-flat2 .ensures
+    ∙ sym (l .loop .inv .1
+    ∙ ap (λ (b : Bool). flatWord board (l .loop .all) && b) (every-none (test m (a .at)) gibBlocks (l .loop .i) h)
+    ∙ and-alone (flatWord board (l .loop .all)))
 
 pub all-flat-spec : {M : Type 1} → statement M
 all-flat-spec =

@@ -17,7 +17,7 @@ all-flat-requires c κs = search needs
 returns : tie.Need-returns
 returns c =
     let a = c .before .before .before .args in
-    sym (flat-run (frameOf (a .f) (now (a .words))) (now (a .words)) (a .at) gibBlocks 0 (now (a .free)) (λ i lo hi. c .before .all-flat .ensures (c .if1 .taken) i (omega arith)))
+    sym (flat-run (frameOf (a .f) (now (a .words))) (now (a .words)) (a .at) gibBlocks 0 (now (a .free)) (sym (c .before .all-flat .ensures) ∙ c .if1 .taken))
 
 add-entries : tie.Need-add-entries
 add-entries c = omega arith

@@ -1,13 +1,13 @@
 -- `sound::gibs` meets its contract: the invariant: the GiBs that are left, one at the least, decide the whole from the marks so far.
 use mathlib.Core.Path.{_≡_, sym, _∙_}
-use Prim.Native.Nat.{_+_, _-_, _%_, _≤_, _<_}
+use Prim.Native.Nat.{_+_, _-_, _%_, _≤_}
 use native.Mathlib.Omega.{arith}
 use lib.ListN.{length}
 use denote.Ref.{now}
 use borrow.Author.Tests.{not-true, not-false}
 use Rattle.model.specs.Layout.{gibBlocks}
 use Rattle.table.specs.Board.{frameOf}
-use Rattle.scan.specs.Scan.{Scan, scanRun, wordStep}
+use Rattle.scan.specs.Scan.{scanRun, wordStep}
 use Rattle.scan.proofs.Loops.{left, left-all, left-on, left-stopped, left-none}
 use Rattle.sound.proofs.gibs.Statement.{statement}
 use Rattle.sound.proofs.gibs.Tie as tie

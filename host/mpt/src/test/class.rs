@@ -6,6 +6,7 @@ use super::forms::Change;
 use super::reserved::Reserved;
 use super::rules::Rule;
 use super::segments::Segment;
+use super::layout::GIB_BLOCKS;
 use super::sweep::Target;
 use mpt_monitor::{Answer, Call, Edited, Fence, Reading, Verdict, Writing};
 
@@ -25,6 +26,8 @@ pub enum Class {
     Cut(Segment),
     /// An entry, a register or an address that differs from a good one in this bit.
     Bit(Target, u8),
+    /// One entry differs in a bit from the 1G type that it was, at this place of a GiB whose other entries are of 1G types.
+    AmongFlat(usize),
     /// Reserved bits of an L1 entry are set, and an access by it or beside it.
     Reserved(Reserved),
     /// A table that is not sound by this rule alone.
@@ -115,6 +118,7 @@ impl Class {
         all.extend(RangeBound::all().map(Class::Range));
         all.extend(Rule::ALL.map(Class::Unsound));
         all.extend(Target::ALL.into_iter().flat_map(|target| (0..64).map(move |bit| Class::Bit(target, bit))));
+        all.extend((0..GIB_BLOCKS).map(Class::AmongFlat));
         all.extend(Reserved::all().map(Class::Reserved));
         all.extend(Change::all().map(Class::Block));
         all.extend(Segment::all().map(Class::Cut));
@@ -140,6 +144,10 @@ impl Class {
             Class::Bit(target, bit) => {
                 let quarter = bit / 16 * 16;
                 ("one bit changed", own(target.name(), format!("bits {quarter}-{}", quarter + 15)))
+            }
+            Class::AmongFlat(nth) => {
+                let quarter = nth / 8 * 8;
+                ("one bit changed in a GiB of 1G types", own("", format!("entries {quarter}-{}", quarter + 7)))
             }
             Class::Block(change) => ("blocks before and after an edit", change.place()),
             Class::Cut(segment) => ("cuts, between the last store made and the next", segment.place()),

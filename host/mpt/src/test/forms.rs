@@ -1,6 +1,6 @@
 //! The form of each block that an edit meets, before it and after it.
 
-use super::layout::{entries, linked, spread, words_of};
+use super::layout::{entries, linked, spread, words_of, GIB_BLOCKS};
 use mpt_monitor::{Edit, Register, Table};
 
 /// The form of a block.
@@ -34,7 +34,6 @@ pub struct Change {
 
 const FORMS: [(Form, &str); 3] = [(Form::OneG, "1G"), (Form::Pieces, "TYPE 6"), (Form::Pages, "TYPE 4")];
 const SPANS: [(Span, &str); 3] = [(Span::Outside, "outside"), (Span::Part, "part"), (Span::Whole, "whole")];
-const GIB_BLOCKS: usize = 32;
 const BLOCK_BYTES: u64 = 1 << 25;
 
 impl Change {

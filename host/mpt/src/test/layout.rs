@@ -10,6 +10,9 @@ pub const FIELDS: u64 = 0x3333_3333_3333_3333;
 /// The reserved bits of these fields.
 pub const RESERVED: u64 = !FIELDS;
 
+/// The entries of a GiB.
+pub const GIB_BLOCKS: usize = 32;
+
 /// An L2 entry of TYPE 0 to 3.
 pub fn flat(permission: u64) -> u64 {
     permission << 44

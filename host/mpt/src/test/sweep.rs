@@ -3,7 +3,7 @@
 
 use super::aim::{self, walk_to};
 use super::class::Class;
-use super::layout::{blocks, open, pages, words_of};
+use super::layout::{blocks, open, pages, words_of, GIB_BLOCKS};
 use super::reading::used_pages;
 use super::reserved;
 use super::trial::{Failure, Trial};
@@ -114,10 +114,19 @@ fn word(trial: &mut Trial, random: &mut Random, target: Target, index: usize) ->
         trial.tally.note(Class::Bit(target, bit as u8));
     }
     trial.obey(Command::Poke { index, word: good })?;
+    if target == Target::Flat && among_flat(trial.table(), index) {
+        trial.tally.note(Class::AmongFlat(index % GIB_BLOCKS));
+    }
     match target {
         Target::L1 => reserved::sweep(trial, random, index),
         _ => Ok(()),
     }
+}
+
+/// All entries of this one's GiB are of 1G types. (A page has whole GiBs.)
+fn among_flat(table: &Table, index: usize) -> bool {
+    let first = index / GIB_BLOCKS * GIB_BLOCKS;
+    table.words()[first..first + GIB_BLOCKS].iter().all(|entry| entry >> 44 < 4)
 }
 
 /// The register of an open slot.

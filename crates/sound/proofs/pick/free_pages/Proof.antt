@@ -37,7 +37,7 @@ unfolding from
 one c =
     let s = c .before .before in
     let r = c .before .lowest in
-    marked-next _ _ _ 0 (r .result) (λ x lo hi. r .ensures .1 x hi) (omega arith) (c .if1 .left) (r .ensures .2 (omega (arith, few s, c .if1 .left)))
+    marked-next _ _ _ 0 (r .result) (λ x lo hi. r .ensures .below x hi) (omega arith) (c .if1 .left) (r .ensures .isMarked (omega (arith, few s, c .if1 .left)))
 
 -- the lowest of the others heads the rest, or there is no other: none lies between
 none-between : (c : tie.After-lowest2) → let e = c .before .before .before .before .before in
@@ -45,7 +45,7 @@ none-between : (c : tie.After-lowest2) → let e = c .before .before .before .be
 none-between c =
     let t = c .before .before in
     let r = t .before .before .before .before .lowest in
-    next-clear _ (r .result) (r .ensures .1) (c .lowest2 .result) (λ x h. subst (λ (k : Marks). markAt k x ≡ false) (t .take .ensures .1) (c .lowest2 .ensures .1 x h))
+    next-clear _ (r .result) (r .ensures .below) (c .lowest2 .result) (λ x h. subst (λ (k : Marks). markAt k x ≡ false) (t .take .ensures .1) (c .lowest2 .ensures .below x h))
 
 two : (c : tie.Else2) → let s = c .before .before .before .before .before .before .before .before in
     let r = c .before .before .before .before .before .before .before .lowest .result in
@@ -57,8 +57,8 @@ two c =
     let e = t .before .before .before in
     let s = e .before .before in
     let r = e .before .lowest in
-    let h = next-stands _ (r .result) (r .ensures .1) (k .lowest2 .result)
-    (subst (λ (m : Marks). markAt m (k .lowest2 .result) ≡ true) (t .take .ensures .1) (k .lowest2 .ensures .2 (omega (arith, few s, c .if2 .left)))) in
+    let h = next-stands _ (r .result) (r .ensures .below) (k .lowest2 .result)
+    (subst (λ (m : Marks). markAt m (k .lowest2 .result) ≡ true) (t .take .ensures .1) (k .lowest2 .ensures .isMarked (omega (arith, few s, c .if2 .left)))) in
     marked-next _ _ _ (r .result + 1) (k .lowest2 .result) (none-between k) (h .0) (c .if2 .left) (h .1)
 
 no-other : (c : tie.Then2) → let s = c .before .before .before .before .before .before .before .before in
@@ -77,7 +77,7 @@ unfolding headD from
 returns c =
     let s = c .before .before in
     let r = c .before .lowest in
-    sym (ap listed (all s ∙ marked-none _ _ _ 0 (r .result) (λ x lo hi. r .ensures .1 x hi) (c .if1 .taken) (omega arith)))
+    sym (ap listed (all s ∙ marked-none _ _ _ 0 (r .result) (λ x lo hi. r .ensures .below x hi) (c .if1 .taken) (omega arith)))
 
 take-requires : tie.Need-take-requires
 take-requires c κs = let e = c .before .before in omega (arith, few (e .before .before), e .if1 .left)
