@@ -3,10 +3,10 @@
 
 use super::bounds::{AddressBound, FrameBound, RangeBound};
 use super::forms::Change;
+use super::layout::GIB_BLOCKS;
 use super::reserved::Reserved;
 use super::rules::Rule;
 use super::segments::Segment;
-use super::layout::GIB_BLOCKS;
 use super::sweep::Target;
 use mpt_monitor::{Answer, Call, Edited, Fence, Reading, Verdict, Writing};
 

@@ -65,6 +65,7 @@ pub fn sweep(trial: &mut Trial, random: &mut Random) -> Result<(), Failure> {
     let target = random.pick(&Target::ALL);
     match target {
         Target::Slot => slot(trial, random),
+        Target::Flat if random.percent(50) => flat_gib(trial, random),
         Target::Register | Target::Address => arguments(trial, random, target),
         _ => match word_of(random, trial.table(), target) {
             Some(index) => word(trial, random, target, index),
@@ -114,19 +115,33 @@ fn word(trial: &mut Trial, random: &mut Random, target: Target, index: usize) ->
         trial.tally.note(Class::Bit(target, bit as u8));
     }
     trial.obey(Command::Poke { index, word: good })?;
-    if target == Target::Flat && among_flat(trial.table(), index) {
-        trial.tally.note(Class::AmongFlat(index % GIB_BLOCKS));
-    }
     match target {
         Target::L1 => reserved::sweep(trial, random, index),
         _ => Ok(()),
     }
 }
 
-/// All entries of this one's GiB are of 1G types. (A page has whole GiBs.)
-fn among_flat(table: &Table, index: usize) -> bool {
-    let first = index / GIB_BLOCKS * GIB_BLOCKS;
-    table.words()[first..first + GIB_BLOCKS].iter().all(|entry| entry >> 44 < 4)
+/// One bit of each entry of a GiB whose entries are all of 1G types, if there is one.
+fn flat_gib(trial: &mut Trial, random: &mut Random) -> Result<(), Failure> {
+    let table = trial.table();
+    let all_flat = |first: &usize| table.words()[*first..*first + GIB_BLOCKS].iter().all(|entry| entry >> 44 < 4);
+    let first_of_gibs = aim::root_words(table).into_iter().filter(|index| index % GIB_BLOCKS == 0);
+    let gibs: Vec<usize> = first_of_gibs.filter(all_flat).collect();
+    if gibs.is_empty() {
+        return Ok(());
+    }
+    let first = random.pick(&gibs);
+    for nth in 0..GIB_BLOCKS {
+        let (index, bit) = (first + nth, random.below(64));
+        let good = trial.table().words()[index];
+        trial.obey(Command::Poke { index, word: good ^ 1 << bit })?;
+        trial.obey(Command::Sound)?;
+        let harmless = aim::harmless(random, trial.table());
+        trial.obey(harmless)?;
+        trial.obey(Command::Poke { index, word: good })?;
+        trial.tally.note(Class::AmongFlat(nth));
+    }
+    Ok(())
 }
 
 /// The register of an open slot.
