@@ -5,7 +5,7 @@
 #define TYPE(type, info) ((uint64_t)(type) << 44 | (info))
 #define UNIFORM(permission) ((permission) * UINT64_C(0x1111111111111111))
 /* Pieces of all four permissions; the check takes longest for a TYPE 6 entry, but for one with an L1 page. And a GiB takes it longest if only its
- * first entry is of a 1G type: then all are gathered, and all are looked at too. */
+ * first entry is of a 1G type: then it is read twice, gathered and entry by entry. */
 #define MIXED_PIECES TYPE(6, UINT64_C(0xe4e4e4e4))
 #define SLOWEST(block) ((block) % 32 ? MIXED_PIECES : TYPE(RW, 0))
 
@@ -41,11 +41,12 @@ void open_roots(uint64_t count)
     next_page = count;
 }
 
-/* L1 pages for a domain, from its highest block down, until so many pages are left. */
+/* L1 pages for a domain, from its highest block down, until so many pages are left; none for the first block of a GiB, so that it stays slow. */
 void fill_up(uint64_t slot, uint64_t left)
 {
     for (uint64_t block = PAGE_ENTRIES - 1; next_page + left < LARGEST_PAGES; block--)
-        give_page(slot, block, RW, 1, 1);
+        if (block % 32)
+            give_page(slot, block, RW, 1, 1);
 }
 
 /* The blocks of the edited domain from GiB 0 to GiB 15: see struct shape. */

@@ -1,4 +1,5 @@
-"""What `run` expects to read. Who changes one of these says here why an edit's stores are still made in order."""
+"""What `run` expects to read. Who changes one of these says here why an edit's stores are still made in
+order, and why a call still marks its pages once."""
 # Every function that is lent words to store into, and who calls it. A number: so many times.
 CALLS = """
 table/store store_word: entries/put put_next, slots/zero zero_page
@@ -65,11 +66,12 @@ entries/put put_next: store_word(words,at,word);let more=left.more;Budget{more:m
     # document 02, item 4: "mark pages once a call and pick from the marks", and "the picking is lent the marks and no table"
     "marks": """
 sound/lib admit: api/lib mpt_sound, monitor/lib edit, slots/lib close, slots/lib open
+slots/lib close: api/lib mpt_close
 sound/pick free_pages(f:Frame,n:usize,free:&Marks): monitor/lib edit_open, slots/lib open_admitted
 """,
     # an edit's limit is handed out once, and used up store by store
     "limits": "edit/lib make, entries/put put_next",
-    # those that lead to an edit's stores do so once: they do not loop
+    # those that lead to an edit's stores, or mark pages, do so once: they do not loop
     "loops": "",
     # names that would hide one of these: an import or a type under another name, a reference that a pattern makes, code from elsewhere
     "other names": "table/board type Word=u64\nmarks/lib type Marks=[u64;4]",

@@ -24,6 +24,7 @@ WRONG = [
     ("assignments", "marks/src/lib.rt", "marks[at] = word - bit;", "let marks = words; marks[at] = word - bit;"),
     ("&mut", "marks/src/lib.rt", "take(marks: &mut Marks,", "take(marks: &mut [u64],"),
     ("marks", "slots/src/lib.rt", "let mut marks = no_marks();", "let mut marks = no_marks(); admit(f, words, slots, &mut marks);"),
+    ("loops", "slots/src/lib.rt", "    let mut marks = no_marks();\n    match admit(f, words, slots, &mut marks) {\n        Admission::Refused(why) => refused(why, slots),\n        Admission::Granted => {", "    let mut marks = no_marks();\n    for i in 0..2usize { }\n    match admit(f, words, slots, &mut marks) {\n        Admission::Refused(why) => refused(why, slots),\n        Admission::Granted => {"),
     ("marks", "slots/src/lib.rt", "    open_at(f,", "    let other = free_pages(f, words.len(), marks); open_at(f,"),
     ("marks", "sound/src/pick.rt", "n: usize, free: &Marks", "words: &[Word], free: &Marks"),
     ("other names", "marks/src/lib.rt", "pub type Marks = [u64; 4];", "pub type Marks = [u64];"),

@@ -20,7 +20,7 @@ WORDS = 4
 abbrev pub MARKS : ℕ
 MARKS = 256
 
--- mark i stands
+-- mark i stands: its bit is 1
 unfoldable pub markAt : Marks → ℕ → Bool
 markAt marks i = eqb (digit 2 (getD marks (i / WORD-MARKS) 0) (i % WORD-MARKS)) 1
 

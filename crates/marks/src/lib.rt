@@ -1,4 +1,4 @@
-// Marks, one bit each: a mark that stands says that a page, or an SDID, is free.
+// Marks, one bit each. A mark stands if its bit is 1, and says then that a page, or an SDID, is free.
 use types::bits::pow2;
 ghost use mathlib.Core.Path.{_≡_};
 ghost use Prim.Native.Nat.{_<_};

@@ -7,7 +7,7 @@ use Rattle.model.specs.Frame.{Frame}
 use Rattle.types.specs.declared.Free.{Free}
 use Rattle.marks.specs.Marks.{Marks, markAt}
 
--- the lent pages that are marked, lowest first
+-- a page, if it is marked; and the lent pages that are, lowest first
 abbrev pub markedAt : ℕ → Marks → ℕ → List ℕ
 markedAt first marks page = if markAt marks (page - first) then page ∷ [] else []
 

@@ -36,7 +36,7 @@ unfoldable pub scanRun : (Marks → ℕ → Scan) → Marks → ℕ → ℕ → 
 scanRun step marks zero s = marked marks
 scanRun step marks (suc n) s = thenScan (step marks s) (λ after. scanRun step after n (suc s))
 
--- a mark is taken away that stood
+-- mark i taken away; unsound if it did not stand
 unfoldable pub takeMark : Marks → ℕ → Scan
 takeMark marks i = scanned (markAt marks i) (unmark marks i)
 

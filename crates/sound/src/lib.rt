@@ -1,5 +1,5 @@
-// The whole-table check: one pass, root by root and GiB by GiB. A page that it meets loses its mark, so that in a sound table just the free pages
-// keep theirs.
+// The whole-table check: one pass, root by root and GiB by GiB. A page that it meets loses its mark, so that of the lent pages of a sound
+// table just the free ones keep theirs.
 pub mod pick;
 
 use marks::Marks;
@@ -82,7 +82,7 @@ fn entry(f: Frame, words: &[Word], e: Entry, free: &mut Marks) -> bool
     }
 }
 
-// The entries whose words stand from start up to end.
+// The entries whose words stand from start up to end, which is not one of them.
 fn entries(f: Frame, words: &[Word], start: usize, end: usize, free: &mut Marks) -> bool
     requires { ⌜ (boundsOk (frameOf f (now words)) ≡ true) × (start ≤ end) × (end ≤ length (now words)) ⌝ }
     ensures { λ r. ⌜ scanned r (now (free .exit)) ≡ scanRun (wordStep (frameOf f (now (words .entry))) (now (words .entry)) start) (now (free .entry)) (end - start) 0 ⌝ }
@@ -132,7 +132,7 @@ fn gib(f: Frame, words: &[Word], at: usize, free: &mut Marks) -> bool
     entries(f, words, at, at + GIB_WORDS, free)
 }
 
-// The same for whole GiBs, one at the least: so the loop tests at its end alone, and a compiler has no empty root to think of.
+// The same for whole GiBs. There is one at the least, so the loop needs no test before its first turn.
 fn gibs(f: Frame, words: &[Word], start: usize, end: usize, free: &mut Marks) -> bool
     requires { ⌜ (boundsOk (frameOf f (now words)) ≡ true) × (start < end) × ((end - start) % gibBlocks ≡ 0) × (end ≤ length (now words)) ⌝ }
     ensures { λ r. ⌜ scanned r (now (free .exit)) ≡ scanRun (wordStep (frameOf f (now (words .entry))) (now (words .entry)) start) (now (free .entry)) (end - start) 0 ⌝ }

@@ -1,5 +1,5 @@
 //! Each bit of a good word changed in turn: entries of every type, registers, addresses, and words
-//! that nothing may read.
+//! that nothing may read; and one bit of each entry of a GiB.
 
 use super::aim::{self, walk_to};
 use super::class::Class;
@@ -57,7 +57,7 @@ impl Target {
     }
 }
 
-/// All bits of one word, if the table is sound and has such a word.
+/// All bits of one word, or one bit of each entry of a GiB, if the table is sound and has such a word.
 pub fn sweep(trial: &mut Trial, random: &mut Random) -> Result<(), Failure> {
     if used_pages(trial.table()).is_none() {
         return Ok(());
