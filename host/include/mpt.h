@@ -27,9 +27,9 @@
  *
  * What every call answers: one word, in a struct of the call's own
  *
- *   1 to 8  refused: the numbers of document 01, named below
- *   255     a privilege, kind or permission code that is not listed here; tested first
- *   else    what the call's comment says
+ *   1 to 8, 10  refused: the numbers of documents 01 and 02, named below
+ *   255         a privilege, kind or permission code that is not listed here; tested first
+ *   else        what the call's comment says
  *
  *   Ask mpt_allowed of a lookup, mpt_is_sound of a check, and mpt_refused of an open, a close or an
  *   edit. None of them compiles for another's answer: `!mpt_refused(..)` of a lookup would have let a
@@ -48,7 +48,7 @@
  * requests of document 02 a library has, docs/changes of its source tells. mpt_version says the
  * library's version. */
 #define MPT_VERSION_MAJOR 2
-#define MPT_VERSION_MINOR 0
+#define MPT_VERSION_MINOR 1
 #define MPT_VERSION ((UINT64_C(1) << 16) * MPT_VERSION_MAJOR + MPT_VERSION_MINOR)
 
 /* An answer may not be left lying. */
@@ -92,7 +92,7 @@ enum {
     MPT_LEAST_LIMIT = 513   /* a new page and its link: with less, an edit may be cut there for ever */
 };
 
-/* Answers. Lowest number first where several fit, except that 8 comes before 7. */
+/* Answers. Lowest number first where several fit, except that 8 comes before 7, and 10 before 6. */
 enum {
     MPT_FINE = 0,         /* lookup: allowed; check: sound */
     MPT_BAD_FRAME = 1,    /* PAW, page count or first page out of bounds, or not whole pages */
@@ -103,6 +103,7 @@ enum {
     MPT_MEETS_LENT = 6,   /* edit: permission not none and the range meets the lent pages */
     MPT_NO_FREE_PAGE = 7, /* open: no page for a root; edit: too few for the whole edit */
     MPT_BAD_SDID = 8,     /* open: SDID above 63, or held by another open slot */
+    MPT_NO_WRITE_EXECUTE = 10, /* edit: MPT_RWX in slots 1 to 7; slot 0 may have it */
     MPT_OUTSIDE_KIND = 255,
     MPT_FETCH_FAULT = 257, /* 256 + cause 1 */
     MPT_LOAD_FAULT = 261,  /* 256 + cause 5 */
@@ -218,14 +219,15 @@ MPT_MUST_USE mpt_closed mpt_close(uint64_t paw, mpt_page first, const uint64_t *
  *   slot        an open slot, 0 to 7
  *   start       the first address; a multiple of 4,096
  *   length      in bytes; a multiple of 4,096, not 0
- *   permission  MPT_NONE to MPT_RWX
+ *   permission  MPT_NONE to MPT_RWX; MPT_RWX in slot 0 alone. Pages that are rwx in other slots, from before this
+ *               rule, stay so until they are edited
  *   limit       the most stores to make; MPT_MOST_STORES is always enough. Where an edit is made again
  *               until it is not cut, MPT_LEAST_LIMIT or more: a new page that was not linked yet is begun
  *               again, so that with less the edit may never end
  *
  * Answers 256, and in the bits above: how many stores were made (mpt_stores), whether those were all
  * (mpt_all) or the limit cut it (mpt_cut), and the fence (mpt_fence, mpt_fence_sdid; an address fence is
- * for the address start); 1, 3, 4, 5, 6 or 7 refused; 255.
+ * for the address start); 1, 3, 4, 5, 10, 6 or 7 refused, in this order; 255.
  */
 MPT_MUST_USE mpt_edited mpt_edit(uint64_t paw, mpt_page first, uint64_t *words, size_t count,
                                  const uint64_t slots[8], mpt_slot slot, mpt_address start, uint64_t length,

@@ -11,9 +11,9 @@ use Rattle.model.specs.Calls.{Outcome, editSlot}
 use Rattle.types.specs.Codes.{Named, known, unknown, answerWord, replyWord}
 use Rattle.monitor.specs.Edits.{requestFrom}
 
--- the version of the interface: 2.0
+-- the version of the interface: 2.1
 abbrev pub version : ℕ
-version = 2 * 65536 + 0
+version = 2 * 65536 + 1
 
 -- where a code names nothing
 abbrev pub noCode : ℕ

@@ -2,18 +2,18 @@
 use mathlib.Core.Path.{_≡_, refl, ap, _∙_}
 use mathlib.Core.Bool.{true}
 use mathlib.Core.List.{List, [], _∷_, map}
-use lib.ListN.{replicate}
+use lib.ListN.{take, drop, replicate}
 use Rattle.model.specs.Access.{itself, tableRead, fetch, load, store, refused, allowed, fault}
 use Rattle.model.specs.Forms.{Request, Form}
 use Rattle.model.specs.Fence.{domainFence}
 use Rattle.model.specs.Stores.{Store}
 use Rattle.model.specs.Calls.{refusedWith, closed, edited, rootOf, finished, storeListWith, storeList}
 use Rattle.laws.proofs.PageRuns.{quickForms, forms-quick}
-use Rattle.cases.specs.Bench.{bench, smallBench, badBench, none, readWrite, ask, askOf, most, opens, closes, closesOn, look, lookBy, eightBytes, freePagesOf, wordsStored, topDigit, wpriSet, pastTheBlocks, reservedBits}
+use Rattle.cases.specs.Bench.{bench, smallBench, badBench, none, rx, readWrite, rwx, ask, askOf, most, opens, closes, closesOn, look, lookBy, l1, eightBytes, freePagesOf, wordsStored, topDigit, wpriSet, pastTheBlocks, reservedBits, twoRoots, fromBefore}
 use Rattle.cases.proofs.Sounds.{quickSound, sound-quick}
 use Rattle.cases.proofs.QuickCalls.{held-is-8, full-is-7}
 use Rattle.cases.proofs.Compute.{compute, pos, quick}
-use Rattle.cases.proofs.States.{slots5, memoryNew, outcomeNew, memoryC, outcomeC, memoryG, outcomeG, outcome512, outcome513, outcomeK1, outcomeK2, outcomeL, outcomeN, outcomeO}
+use Rattle.cases.proofs.States.{slots5, memoryNew, outcomeNew, memoryC, outcomeC, memoryG, outcomeG, outcome512, outcome513, outcomeK1, outcomeK2, outcomeL, outcomeN, outcomeO, outcomeW}
 
 -- ---- lookups
 
@@ -212,6 +212,92 @@ U-close-unsound = refl
 pub U-close-slot : closes outcomeNew 8 .reply ≡ refusedWith 4
 unfolding compute slots5 memoryNew outcomeNew
 U-close-slot = refl
+
+-- ---- no write and execute together
+
+pub W-one : quick 32 0x80000 16 outcomeN (askOf 1 0x40000000 0x1000 rwx) most .reply ≡ refusedWith 10
+unfolding compute outcomeN
+W-one = refl
+
+pub W-zero : quick 32 0x80000 16 outcomeN (ask 0x40000000 0x1000 rwx) most .reply ≡ edited 544 true
+unfolding compute outcomeN
+W-zero = refl
+
+pub W-seven : quick 32 0x80000 16 outcomeW (askOf 7 0x40000000 0x1000 rwx) most .reply ≡ refusedWith 10
+unfolding compute outcomeW
+W-seven = refl
+
+pub W-empty : quick 32 0x80000 16 outcomeN (askOf 2 0x40000000 0x1000 rwx) most .reply ≡ refusedWith 4
+unfolding compute outcomeN
+W-empty = refl
+
+pub W-range : quick 32 0x80000 16 outcomeN (askOf 1 0x8000F000 0x800 rwx) most .reply ≡ refusedWith 5
+unfolding compute outcomeN
+W-range = refl
+
+pub W-lent : quick 32 0x80000 16 outcomeN (askOf 1 0x8000F000 0x1000 rwx) most .reply ≡ refusedWith 10
+unfolding compute outcomeN
+W-lent = refl
+
+pub W-lent-zero : quick 32 0x80000 16 outcomeN (ask 0x8000F000 0x1000 rwx) most .reply ≡ refusedWith 6
+unfolding compute outcomeN
+W-lent-zero = refl
+
+pub W-none : quick 32 0x80000 16 outcomeN (askOf 1 0x40000000 0x1000 none) most .reply ≡ edited 0 true
+unfolding compute outcomeN
+W-none = refl
+
+pub W-rx : quick 32 0x80000 16 outcomeN (askOf 1 0x40000000 0x1000 rx) most .reply ≡ edited 544 true
+unfolding compute outcomeN
+W-rx = refl
+
+pub W-rw : quick 32 0x80000 16 outcomeN (askOf 1 0x40000000 0x1000 readWrite) most .reply ≡ edited 544 true
+unfolding compute outcomeN
+W-rw = refl
+
+pub W-full : quick 32 0x80000 2 twoRoots (askOf 1 0x40000000 0x1000 rwx) most .reply ≡ refusedWith 10
+unfolding compute twoRoots
+W-full = refl
+
+pub W-full-rw : quick 32 0x80000 2 twoRoots (askOf 1 0x40000000 0x1000 readWrite) most .reply ≡ refusedWith 7
+unfolding compute twoRoots
+W-full-rw = refl
+
+pub W-fetch : lookBy bench 0x1140000000080000 fromBefore 0xC0000000 (itself fetch) ≡ allowed
+unfolding compute fromBefore
+W-fetch = refl
+
+pub W-store : lookBy bench 0x1140000000080000 fromBefore 0xC2000000 (itself store) ≡ allowed
+unfolding compute fromBefore
+W-store = refl
+
+pub W-close : closes fromBefore 1 .reply ≡ closed
+unfolding compute fromBefore
+W-close = refl
+
+pub W-began : quick 32 0x80000 16 fromBefore (askOf 1 0x40000000 0x1000 rwx) most .reply ≡ refusedWith 10
+unfolding compute fromBefore
+W-began = refl
+
+pub W-already : quick 32 0x80000 16 fromBefore (askOf 1 0xC0000000 0x1000 rwx) most .reply ≡ refusedWith 10
+unfolding compute fromBefore
+W-already = refl
+
+pub W-beside : quick 32 0x80000 16 fromBefore (askOf 1 0x40001000 0x1000 readWrite) most .reply ≡ edited 32 true
+unfolding compute fromBefore
+W-beside = refl
+
+pub W-stays : l1 (quick 32 0x80000 16 fromBefore (askOf 1 0x40001000 0x1000 readWrite) most) 0 ≡ 0x23
+unfolding compute fromBefore
+W-stays = refl
+
+pub W-over : quick 32 0x80000 16 fromBefore (askOf 1 0xC0000000 0x1000 rx) most .reply ≡ edited 543 true
+unfolding compute fromBefore
+W-over = refl
+
+pub W-rest : take 2 (drop 1024 (quick 32 0x80000 16 fromBefore (askOf 1 0xC0000000 0x1000 rx) most .memory)) ≡ 0x3333333333333331 ∷ 0x3333333333333333 ∷ []
+unfolding compute fromBefore
+W-rest = refl
 
 -- ---- G's stores, the free pages, and bytes
 

@@ -4,11 +4,11 @@ use mathlib.Core.Path.{refl, ap, _∙_}
 use lib.ListN.{take, drop}
 use Rattle.model.specs.Access.{itself, tableRead, fetch, load, store}
 use Rattle.model.specs.Calls.{Outcome, Reply}
-use Rattle.cases.specs.Bench.{bench, smallBench, badBench, none, readWrite, ask, askOf, most, opens, closes, look, lookBy, registerAt, l2, l1, eightBytes, freePagesOf, wordsStored, topDigit}
+use Rattle.cases.specs.Bench.{bench, smallBench, badBench, none, rx, readWrite, rwx, ask, askOf, most, opens, closes, look, lookBy, registerAt, l2, l1, eightBytes, freePagesOf, wordsStored, topDigit, twoRoots, fromBefore}
 use Rattle.cases.specs.Cases.{AllOf, done, both, markedCases, otherCases}
 use Rattle.cases.proofs.Compute.{compute, runs}
-use Rattle.cases.proofs.States.{slots5, memoryNew, outcomeNew, new-is, memoryC, outcomeC, C-is, outcomeF, F-is, memoryG, outcomeG, G-is, outcomeH, H-is, outcome512, D512-is, outcome513, D513-is, outcomeK1, K1-is, outcomeK2, K2-is, outcomeL, L-is, outcomeM, M-is, outcomeM2, M2-is, outcomeN, N-is, outcomeO, O-is, outcomeT, T-is}
-use Rattle.cases.proofs.Answers.{gib, A-load, D-load512, D-load513, D-beside, E-store, E-fetch, E-table, I-load, L-load, L-swapped, P-load, R-load, U-look-frame, U-look-register, V-load, V-own-none, V-beside, V-own, V-lowest, V-close, D-again, I-edit, I-past, J-lent, J-beside, J-none, K-full, K-freed, N-held, N-close, N-first, N-full, P-close, R-close, S-close, U-frame, U-unsound, U-slot, U-range, U-lent, U-open-frame, U-open-unsound, U-open-slot, U-open-sdid, U-close-frame, U-close-unsound, U-close-slot, G-stored, G-free, O-free, S-free, Q-bytes}
+use Rattle.cases.proofs.States.{slots5, memoryNew, outcomeNew, new-is, memoryC, outcomeC, C-is, outcomeF, F-is, memoryG, outcomeG, G-is, outcomeH, H-is, outcome512, D512-is, outcome513, D513-is, outcomeK1, K1-is, outcomeK2, K2-is, outcomeL, L-is, outcomeM, M-is, outcomeM2, M2-is, outcomeN, N-is, outcomeO, O-is, outcomeT, T-is, outcomeW, W-is}
+use Rattle.cases.proofs.Answers.{gib, A-load, D-load512, D-load513, D-beside, E-store, E-fetch, E-table, I-load, L-load, L-swapped, P-load, R-load, U-look-frame, U-look-register, V-load, V-own-none, V-beside, V-own, V-lowest, V-close, D-again, I-edit, I-past, J-lent, J-beside, J-none, K-full, K-freed, N-held, N-close, N-first, N-full, P-close, R-close, S-close, U-frame, U-unsound, U-slot, U-range, U-lent, U-open-frame, U-open-unsound, U-open-slot, U-open-sdid, U-close-frame, U-close-unsound, U-close-slot, G-stored, G-free, O-free, S-free, Q-bytes, W-one, W-zero, W-seven, W-empty, W-range, W-lent, W-lent-zero, W-none, W-rx, W-rw, W-full, W-full-rw, W-fetch, W-store, W-close, W-began, W-already, W-beside, W-stays, W-over, W-rest}
 
 abbrev replyOf : Outcome → Reply
 replyOf o = o .reply
@@ -105,4 +105,25 @@ others =
     (both V-own
     (both V-lowest
     (both V-close
-    done))))))))))))))))))))))))))))))))))))))))))))))))))))))))
+    (both (runs 32 0x80000 16 replyOf (askOf 1 0x40000000 0x1000 rwx) most N-is W-one)
+    (both (runs 32 0x80000 16 replyOf (ask 0x40000000 0x1000 rwx) most N-is W-zero)
+    (both (runs 32 0x80000 16 replyOf (askOf 7 0x40000000 0x1000 rwx) most W-is W-seven)
+    (both (runs 32 0x80000 16 replyOf (askOf 2 0x40000000 0x1000 rwx) most N-is W-empty)
+    (both (runs 32 0x80000 16 replyOf (askOf 1 0x8000F000 0x800 rwx) most N-is W-range)
+    (both (runs 32 0x80000 16 replyOf (askOf 1 0x8000F000 0x1000 rwx) most N-is W-lent)
+    (both (runs 32 0x80000 16 replyOf (ask 0x8000F000 0x1000 rwx) most N-is W-lent-zero)
+    (both (runs 32 0x80000 16 replyOf (askOf 1 0x40000000 0x1000 none) most N-is W-none)
+    (both (runs 32 0x80000 16 replyOf (askOf 1 0x40000000 0x1000 rx) most N-is W-rx)
+    (both (runs 32 0x80000 16 replyOf (askOf 1 0x40000000 0x1000 readWrite) most N-is W-rw)
+    (both (runs 32 0x80000 2 replyOf {o = twoRoots} (askOf 1 0x40000000 0x1000 rwx) most refl W-full)
+    (both (runs 32 0x80000 2 replyOf {o = twoRoots} (askOf 1 0x40000000 0x1000 readWrite) most refl W-full-rw)
+    (both W-fetch
+    (both W-store
+    (both W-close
+    (both (runs 32 0x80000 16 replyOf {o = fromBefore} (askOf 1 0x40000000 0x1000 rwx) most refl W-began)
+    (both (runs 32 0x80000 16 replyOf {o = fromBefore} (askOf 1 0xC0000000 0x1000 rwx) most refl W-already)
+    (both (runs 32 0x80000 16 replyOf {o = fromBefore} (askOf 1 0x40001000 0x1000 readWrite) most refl W-beside)
+    (both (runs 32 0x80000 16 (λ (o : Outcome). l1 o 0) {o = fromBefore} (askOf 1 0x40001000 0x1000 readWrite) most refl W-stays)
+    (both (runs 32 0x80000 16 replyOf {o = fromBefore} (askOf 1 0xC0000000 0x1000 rx) most refl W-over)
+    (both (runs 32 0x80000 16 (λ (o : Outcome). take 2 (drop 1024 (o .memory))) {o = fromBefore} (askOf 1 0xC0000000 0x1000 rx) most refl W-rest)
+    done)))))))))))))))))))))))))))))))))))))))))))))))))))))))))))))))))))))))))))))

@@ -16,7 +16,7 @@ use Rattle.model.specs.Sound.{isOpen, openRegisters, linkOf, roots, sdids, soun
 use Rattle.model.specs.Forms.{Request, permOf, inRange, firstGib, gibs, afterIn, after, allAre, gibFirst, gibIsOne, piecesAreOne, piecesInfo, formIn, l1Word, formsIn, formsOf, forms}
 use Rattle.model.specs.Stores.{apply, needsPage, storeAt, storeL2, ifChanged, ifChangedL2, newPages, sameTable, newTable, linkTable, blockStores, storesFrom}
 use Rattle.model.specs.Fence.{inRoot, oneL1Store, fenceFor}
-use Rattle.model.specs.Calls.{Outcome, firstMet, slotAt, badRange, meetsLent, registerFor, rootOf, refuse, openRefusal, openAt, openSlot, closeRefusal, closeSlot, finished, editRefusalWith, storeListWith, editRefusal, storeList, made, editWith, editSlot}
+use Rattle.model.specs.Calls.{Outcome, firstMet, slotAt, badRange, writeExecute, meetsLent, registerFor, rootOf, refuse, openRefusal, openAt, openSlot, closeRefusal, closeSlot, finished, editRefusalWith, storeListWith, editRefusal, storeList, made, editWith, editSlot}
 use Rattle.laws.proofs.Peeks.{parts, pageParts, peek}
 use Rattle.laws.proofs.PageRuns.{covers, misses, says, quickAfter, allOne, saysOne, alike, runIs, gibBy, formBy, formsInBy, formsBy, quickForms}
 use Rattle.cases.specs.Bench.{opens, edits}
@@ -27,7 +27,7 @@ use Rattle.cases.proofs.QuickCalls.{quickRefusal, quickList, quickMade,
 
 -- to unfold this is to unfold all that it names
 unfoldable pub compute : Unit {0}
-unfolding every joined each member distinct digit pack ppnOf wpriOf sdidOf modeOf registerOf isBare registerOk infoOf typeOf zeroOf decode encode fieldOf clean pageOf blocks space lent boundsOk frameOk indexOf wordAt byteAt pn0 pn1 pn2 pieceOf rootPages entryPage entryPlace l2Word entryAt found walk needOf originalOf causeOf columnOf mayRows may judge isMachine reads lookup isOpen openRegisters linkOf roots sdids soundRegister soundSlots freeOf linksIn used cleanPage soundEntry soundRoot soundTable sound freePages permOf inRange firstGib gibs afterIn after allAre gibFirst gibIsOne piecesAreOne piecesInfo formIn l1Word formsIn formsOf forms apply needsPage storeAt storeL2 ifChanged ifChangedL2 newPages sameTable newTable linkTable blockStores storesFrom inRoot oneL1Store fenceFor firstMet slotAt badRange meetsLent registerFor rootOf refuse openRefusal openAt openSlot closeRefusal closeSlot finished editRefusalWith storeListWith editRefusal storeList made editWith editSlot headD parts pageParts peek covers misses says quickAfter allOne saysOne alike runIs gibBy formBy formsInBy formsBy quickForms pass passes pasted quickWord quickSame quickNew quickLink quickBlock quickStores quickClean quickEntry quickSound quickRefusal quickList quickMade quickWith quickOpenAt quickOpen
+unfolding every joined each member distinct digit pack ppnOf wpriOf sdidOf modeOf registerOf isBare registerOk infoOf typeOf zeroOf decode encode fieldOf clean pageOf blocks space lent boundsOk frameOk indexOf wordAt byteAt pn0 pn1 pn2 pieceOf rootPages entryPage entryPlace l2Word entryAt found walk needOf originalOf causeOf columnOf mayRows may judge isMachine reads lookup isOpen openRegisters linkOf roots sdids soundRegister soundSlots freeOf linksIn used cleanPage soundEntry soundRoot soundTable sound freePages permOf inRange firstGib gibs afterIn after allAre gibFirst gibIsOne piecesAreOne piecesInfo formIn l1Word formsIn formsOf forms apply needsPage storeAt storeL2 ifChanged ifChangedL2 newPages sameTable newTable linkTable blockStores storesFrom inRoot oneL1Store fenceFor firstMet slotAt badRange writeExecute meetsLent registerFor rootOf refuse openRefusal openAt openSlot closeRefusal closeSlot finished editRefusalWith storeListWith editRefusal storeList made editWith editSlot headD parts pageParts peek covers misses says quickAfter allOne saysOne alike runIs gibBy formBy formsInBy formsBy quickForms pass passes pasted quickWord quickSame quickNew quickLink quickBlock quickStores quickClean quickEntry quickSound quickRefusal quickList quickMade quickWith quickOpenAt quickOpen
 compute = tt
 
 abbrev pub pos : 0 < piecePages rv64

@@ -13,7 +13,7 @@ use Rattle.model.specs.Sound.{Slot, isOpen, roots, sdids, sound, freePages}
 use Rattle.model.specs.Forms.{Request, Form, firstGib}
 use Rattle.model.specs.Stores.{Store, newPages}
 use Rattle.model.specs.Fence.{noFence}
-use Rattle.model.specs.Calls.{Outcome, refusedWith, opened, firstMet, slotAt, badRange, meetsLent, rootOf, refuse, openRefusal, openAt, openSlot, editRefusalWith, storeListWith, made, editWith, editSlot}
+use Rattle.model.specs.Calls.{Outcome, refusedWith, opened, firstMet, slotAt, badRange, writeExecute, meetsLent, rootOf, refuse, openRefusal, openAt, openSlot, editRefusalWith, storeListWith, made, editWith, editSlot}
 use Rattle.laws.proofs.PageRuns.{quickForms, edit-quick}
 use Rattle.cases.proofs.QuickPasses.{passes, apply-passes, pasted, sets-pasted}
 use Rattle.cases.proofs.QuickStores.{quickStores, stores-quick}
@@ -32,6 +32,7 @@ module _ (F : Frame) (pos : 0 < piecePages (F .layout)) (m : List ℕ) (slots : 
       ∷ (3, not isSound)
       ∷ (4, not (ltb (q .slot) slotCount) || not (isOpen (slotAt slots (q .slot))))
       ∷ (5, badRange F q)
+      ∷ (10, writeExecute q)
       ∷ (6, not (eqb (q .permission) 0) && meetsLent F q)
       ∷ (7, ltb (length (freePages F m (roots F slots))) (newPages F m root (firstGib q * gibBlocks) fs))
       ∷ [])

@@ -7,7 +7,7 @@ use lib.ListN.{replicate, set}
 use lib.Seq.{sets}
 use Rattle.model.specs.Fence.{Fence, noFence, domainFence, addressFence}
 use Rattle.model.specs.Calls.{Outcome, Reply, opened, edited}
-use Rattle.cases.specs.Bench.{bench, smallBench, none, rx, readWrite, ask, most, blank, new, afterC, afterF, afterG, afterH, cut512, cut513, small0, small1, small2, afterL, afterM, afterM2, withZero, unfinished, afterO, onePageShort, afterT}
+use Rattle.cases.specs.Bench.{bench, smallBench, none, rx, readWrite, ask, most, blank, new, afterC, afterF, afterG, afterH, cut512, cut513, small0, small1, small2, afterL, afterM, afterM2, withZero, withSeven, unfinished, afterO, onePageShort, afterT}
 use Rattle.cases.proofs.QuickPasses.{pasted, sets-pasted}
 use Rattle.cases.proofs.QuickCalls.{quickOpen}
 use Rattle.cases.proofs.Compute.{compute, quick, run, run-open}
@@ -263,3 +263,16 @@ T-run = refl
 pub T-is : afterT ≡ outcomeT
 unfolding afterT
 T-is = run 32 0x80000 16 (ask 0x40000000 0x1000 readWrite) most T0-is T-run
+
+-- ---- W
+
+unfoldable pub outcomeW : Outcome
+outcomeW = left opened (replicate 8192 0) (set (set (set (replicate 8 0) 0 0x1140000000080000) 1 0x1000000000080001) 7 0x1180000000080002) noFence
+
+W-run : quickOpen bench (outcomeN .memory) (outcomeN .slots) 7 6 ≡ outcomeW
+unfolding compute outcomeN outcomeW
+W-run = refl
+
+pub W-is : withSeven ≡ outcomeW
+unfolding withSeven
+W-is = run-open 32 0x80000 16 7 6 N-is W-run

@@ -35,6 +35,9 @@ rx = 1
 abbrev pub readWrite : ℕ
 readWrite = 2
 
+abbrev pub rwx : ℕ
+rwx = 3
+
 -- an edit of a slot; of slot 0
 abbrev pub askOf : ℕ → ℕ → ℕ → ℕ → Request
 askOf slot start size permission = record { slot = slot; start = start; size = size; permission = permission }
@@ -94,9 +97,12 @@ wordsStored o q = map (λ s. s .word) (storeList bench (o .memory) (o .slots) q)
 abbrev pub blank : ℕ → Outcome
 blank n = record { reply = opened; memory = replicate n 0; slots = replicate 8 emptySlot; fence = noFence }
 
--- a memory with a register in slot 0
+-- a memory with a register in slot s; in slot 0
+abbrev standsIn : ℕ → List ℕ → ℕ → Outcome
+standsIn s m r = record { reply = opened; memory = m; slots = set (replicate 8 emptySlot) s r; fence = noFence }
+
 abbrev stands : List ℕ → ℕ → Outcome
-stands m r = record { reply = opened; memory = m; slots = set (replicate 8 emptySlot) 0 r; fence = noFence }
+stands = standsIn 0
 
 -- "slot 0 opened with SDID 5"
 unfoldable pub new : Outcome
@@ -182,4 +188,20 @@ unfoldable pub reservedBits : Outcome
 reservedBits =
     stands
     (sets (set (replicate 8192 0) 32 0x0000400000080001) 512 (0x4000000000000002 ∷ 0x0000000000000002 ∷ 0x6000000000000000 ∷ 0x2000000000000004 ∷ []))
+    0x1140000000080000
+
+-- W: slots 0 and 1 as in N, and slot 7 opened with SDID 6
+unfoldable pub withSeven : Outcome
+withSeven = opens bench withZero 7 6
+
+-- W: two pages lent, the roots of slots 0 and 1: none is free
+unfoldable pub twoRoots : Outcome
+twoRoots = record { reply = opened; memory = replicate 1024 0; slots = set (set (replicate 8 emptySlot) 0 0x1140000000080000) 1 0x1000000000080001; fence = noFence }
+
+-- W: a table from before item 6, in slot 1. Blocks 96 and 97 are rwx, the one by a 1G type and the other by pieces; and an edit: rwx, 0x40000000,
+-- one page, was cut after 513 stores
+unfoldable pub fromBefore : Outcome
+fromBefore =
+    standsIn 1
+    (set (set (set (set (replicate 8192 0) 96 0x0000300000000000) 97 0x00006000FFFFFFFF) 512 0x3) 32 0x0000400000080001)
     0x1140000000080000

@@ -1,5 +1,5 @@
 -- The cases. A line `-- CASE. what is asked` stands above each statement, whose right side is what is answered.
--- A to K are document 01's. Those that it marks * are one list by themselves (`markedCases`); D, K and our own, L to V, stand beside it. The first
+-- A to K are document 01's. Those that it marks * are one list by themselves (`markedCases`); D, K and our own, L to W, stand beside it. The first
 -- of V is document 02's.
 use mathlib.Core.Path.{_≡_}
 use mathlib.Core.Bool.{true, false}
@@ -11,7 +11,7 @@ use Rattle.model.specs.Walk.{pn0, pn1, pn2}
 use Rattle.model.specs.Access.{itself, tableRead, fetch, load, store, refused, allowed, fault}
 use Rattle.model.specs.Fence.{domainFence, addressFence}
 use Rattle.model.specs.Calls.{refusedWith, closed, edited}
-use Rattle.cases.specs.Bench.{bench, smallBench, badBench, none, readWrite, ask, askOf, most, opens, edits, closes, closesOn, look, lookBy, registerAt, l2, l1, eightBytes, freePagesOf, wordsStored, new, afterC, afterF, afterG, afterH, cut512, cut513, small1, small2, afterL, afterM, afterM2, withZero, afterO, topDigit, wpriSet, pastTheBlocks, afterT, reservedBits}
+use Rattle.cases.specs.Bench.{bench, smallBench, badBench, none, rx, readWrite, rwx, ask, askOf, most, opens, edits, closes, closesOn, look, lookBy, registerAt, l2, l1, eightBytes, freePagesOf, wordsStored, new, afterC, afterF, afterG, afterH, cut512, cut513, small1, small2, afterL, afterM, afterM2, withZero, afterO, topDigit, wpriSet, pastTheBlocks, afterT, reservedBits, withSeven, twoRoots, fromBefore}
 
 -- every one of these statements holds
 pub data AllOf : List (Type 0) → Type 1 where
@@ -193,4 +193,46 @@ otherCases =
     ∷ (look reservedBits 0x4003F000 (itself store) ≡ fault 7)
     -- V. close its slot
     ∷ (closes reservedBits 0 .reply ≡ refusedWith 3)
+    -- W. document 02, item 6: slots 0 and 1 open, edit: slot 1, rwx, 0x40000000, one page
+    ∷ (edits bench withZero (askOf 1 0x40000000 0x1000 rwx) most .reply ≡ refusedWith 10)
+    -- W. the same in slot 0
+    ∷ (edits bench withZero (ask 0x40000000 0x1000 rwx) most .reply ≡ edited 544 true)
+    -- W. slot 7 open too, the same in it
+    ∷ (edits bench withSeven (askOf 7 0x40000000 0x1000 rwx) most .reply ≡ refusedWith 10)
+    -- W. the same in slot 2, which is empty
+    ∷ (edits bench withZero (askOf 2 0x40000000 0x1000 rwx) most .reply ≡ refusedWith 4)
+    -- W. slot 1, rwx, 0x8000F000, which is lent, length 0x800
+    ∷ (edits bench withZero (askOf 1 0x8000F000 0x800 rwx) most .reply ≡ refusedWith 5)
+    -- W. the same, one page
+    ∷ (edits bench withZero (askOf 1 0x8000F000 0x1000 rwx) most .reply ≡ refusedWith 10)
+    -- W. the same in slot 0
+    ∷ (edits bench withZero (ask 0x8000F000 0x1000 rwx) most .reply ≡ refusedWith 6)
+    -- W. slot 1, none, 0x40000000, one page
+    ∷ (edits bench withZero (askOf 1 0x40000000 0x1000 none) most .reply ≡ edited 0 true)
+    -- W. the same with rx
+    ∷ (edits bench withZero (askOf 1 0x40000000 0x1000 rx) most .reply ≡ edited 544 true)
+    -- W. the same with rw
+    ∷ (edits bench withZero (askOf 1 0x40000000 0x1000 readWrite) most .reply ≡ edited 544 true)
+    -- W. two pages lent and none free, edit: slot 1, rwx, 0x40000000, one page
+    ∷ (edits smallBench twoRoots (askOf 1 0x40000000 0x1000 rwx) most .reply ≡ refusedWith 10)
+    -- W. the same with rw
+    ∷ (edits smallBench twoRoots (askOf 1 0x40000000 0x1000 readWrite) most .reply ≡ refusedWith 7)
+    -- W. pages of slot 1 that are rwx from before, fetch 0xC0000000
+    ∷ (lookBy bench 0x1140000000080000 fromBefore 0xC0000000 (itself fetch) ≡ allowed)
+    -- W. store 0xC2000000
+    ∷ (lookBy bench 0x1140000000080000 fromBefore 0xC2000000 (itself store) ≡ allowed)
+    -- W. close their slot
+    ∷ (closes fromBefore 1 .reply ≡ closed)
+    -- W. an edit that began before: slot 1, rwx, 0x40000000, one page, cut after 513 stores, again
+    ∷ (edits bench fromBefore (askOf 1 0x40000000 0x1000 rwx) most .reply ≡ refusedWith 10)
+    -- W. edit: slot 1, rwx, 0xC0000000, one page, which is rwx already
+    ∷ (edits bench fromBefore (askOf 1 0xC0000000 0x1000 rwx) most .reply ≡ refusedWith 10)
+    -- W. edit: slot 1, rw, 0x40001000, the page after one that is rwx
+    ∷ (edits bench fromBefore (askOf 1 0x40001000 0x1000 readWrite) most .reply ≡ edited 32 true)
+    -- W. L1 entry 0
+    ∷ (l1 (edits bench fromBefore (askOf 1 0x40001000 0x1000 readWrite) most) 0 ≡ 0x23)
+    -- W. edit: slot 1, rx, 0xC0000000, one page, which was rwx
+    ∷ (edits bench fromBefore (askOf 1 0xC0000000 0x1000 rx) most .reply ≡ edited 543 true)
+    -- W. L1 entries 0 and 1 of the new page, the other pages of whose block stay rwx
+    ∷ (take 2 (drop 1024 (edits bench fromBefore (askOf 1 0xC0000000 0x1000 rx) most .memory)) ≡ 0x3333333333333331 ∷ 0x3333333333333333 ∷ [])
     ∷ []

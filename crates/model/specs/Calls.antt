@@ -45,6 +45,10 @@ badRange F q =
 unfoldable pub meetsLent : Frame → Request → Bool
 meetsLent F q = ltb (q .start) ((F .first + F .pages) * pageBytes) && ltb (F .first * pageBytes) (q .start + q .size)
 
+-- Document 02, item 6: "An edit asking for rwx in slots 1 to 7 .. Slot 0 keeps it." (Slots above 7 have their own number, 4, before it.)
+unfoldable pub writeExecute : Request → Bool
+writeExecute q = eqb (q .permission) 3 && not (eqb (q .slot) 0)
+
 -- the register of the slot that an edit names, and its root page
 unfoldable pub registerFor : List Slot → Request → ℕ
 registerFor slots q = register (slotAt slots (q .slot))
@@ -110,8 +114,9 @@ module _ (F : Frame) (m : List ℕ) (slots : List Slot) where
     unfoldable pub finished : List Form
     finished = forms F m q root
 
-    -- 5, 6, "permission not none and the range meets the lent pages", and 7, "the whole edit, whatever its limit, needs more new pages
-    -- than are free before it". fs is the finished form: it is handed in so that it is computed once
+    -- 5; 10, "tested after 5 and before 6" (document 02, item 6); 6, "permission not none and the range meets the lent pages"; and 7, "the
+    -- whole edit, whatever its limit, needs more new pages than are free before it". fs is the finished form: it is handed in so that it is
+    -- computed once
     unfoldable pub editRefusalWith : List Form → ℕ
     editRefusalWith fs =
         firstMet
@@ -119,6 +124,7 @@ module _ (F : Frame) (m : List ℕ) (slots : List Slot) where
         ∷ notSound
         ∷ (4, not (ltb (q .slot) slotCount) || not (isOpen (slotAt slots (q .slot))))
         ∷ (5, badRange F q)
+        ∷ (10, writeExecute q)
         ∷ (6, not (eqb (q .permission) 0) && meetsLent F q)
         ∷ (7, ltb (length (freePages F m (roots F slots))) (newPages F m root (firstGib q * gibBlocks) fs))
         ∷ [])

@@ -11,7 +11,7 @@ use Rattle.model.specs.Frame.{Frame, frameOk}
 use Rattle.model.specs.Sound.{Slot, roots, sound, freePages}
 use Rattle.model.specs.Forms.{Request, forms, firstGib}
 use Rattle.model.specs.Stores.{Store, newPages}
-use Rattle.model.specs.Calls.{Outcome, edited, firstMet, registerFor, rootOf, refuse, badRange, meetsLent, finished, editRefusalWith, editRefusal, storeList, made, editWith, editSlot}
+use Rattle.model.specs.Calls.{Outcome, edited, firstMet, registerFor, rootOf, refuse, badRange, writeExecute, meetsLent, finished, editRefusalWith, editRefusal, storeList, made, editWith, editSlot}
 use Rattle.types.specs.declared.StoresMade.{StoresMade}
 use Rattle.sequence.specs.StoresMade.{StoresMadeIs}
 use Rattle.shapes.specs.Slots.{notOpen}
@@ -46,18 +46,23 @@ module _ (F : Frame) (m : List ℕ) (slots : List Slot) (q : Request) where
           edit-range h = rw (one, three, four, h)
 
           module _ (five : badRange F q ≡ false) where
-            pub edit-lent : (not (eqb (q .permission) 0) && meetsLent F q) ≡ true → editSlot F m slots q limit ≡ refuse F m slots 6
+            pub edit-write-execute : writeExecute q ≡ true → editSlot F m slots q limit ≡ refuse F m slots 10
             unfolding editSlot editWith editRefusalWith firstMet
-            edit-lent h = rw (one, three, four, five, h)
+            edit-write-execute h = rw (one, three, four, five, h)
 
-            module _ (six : (not (eqb (q .permission) 0) && meetsLent F q) ≡ false) where
-              pub edit-no-room : noRoom ≡ true → editSlot F m slots q limit ≡ refuse F m slots 7
-              unfolding editSlot editWith editRefusalWith firstMet finished
-              edit-no-room h = rw (one, three, four, five, six, h)
+            module _ (ten : writeExecute q ≡ false) where
+              pub edit-lent : (not (eqb (q .permission) 0) && meetsLent F q) ≡ true → editSlot F m slots q limit ≡ refuse F m slots 6
+              unfolding editSlot editWith editRefusalWith firstMet
+              edit-lent h = rw (one, three, four, five, ten, h)
 
-              pub edit-accepted : noRoom ≡ false → editRefusal F m slots q ≡ 0
-              unfolding editRefusal editRefusalWith firstMet finished
-              edit-accepted h = rw (one, three, four, five, six, h)
+              module _ (six : (not (eqb (q .permission) 0) && meetsLent F q) ≡ false) where
+                pub edit-no-room : noRoom ≡ true → editSlot F m slots q limit ≡ refuse F m slots 7
+                unfolding editSlot editWith editRefusalWith firstMet finished
+                edit-no-room h = rw (one, three, four, five, ten, six, h)
+
+                pub edit-accepted : noRoom ≡ false → editRefusal F m slots q ≡ 0
+                unfolding editRefusal editRefusalWith firstMet finished
+                edit-accepted h = rw (one, three, four, five, ten, six, h)
 
     pub edit-done : editRefusal F m slots q ≡ 0 → editSlot F m slots q limit ≡ made F m slots q (storeList F m slots q) limit
     unfolding editSlot editWith editRefusal storeList

@@ -7,6 +7,7 @@ use marks::Marks;
 use marks::no_marks;
 use range::bounds::bad_range;
 use range::bounds::on_lent_pages;
+use range::bounds::write_execute;
 pub use slots::Outcome;
 pub use slots::close;
 use slots::named::not_open;
@@ -32,7 +33,7 @@ ghost use Rattle.slots.specs.Outcomes.{outcomeOf};
 ghost use Rattle.monitor.specs.Edits.{requestFrom, InOpenSlot};
 ghost use Rattle.table.specs.Board.{frameOf};
 
-// An edit in an open slot of a sound table, whose marks are at hand. Refusals 5, 6, 7, in this order, and then the stores.
+// An edit in an open slot of a sound table, whose marks are at hand. Refusals 5, 10, 6, 7, in this order, and then the stores.
 fn edit_open(
     f: Frame,
     words: &mut [Word],
@@ -46,6 +47,9 @@ fn edit_open(
 {
     if bad_range(f, words.len(), q) {
         return refused(Refusal::Range, slots);
+    }
+    if write_execute(q) {
+        return refused(Refusal::WriteExecute, slots);
     }
     if on_lent_pages(f, words.len(), q) {
         return refused(Refusal::LentPages, slots);

@@ -1,4 +1,4 @@
-// Whether an edit may have its range: the two tests that document 01 makes of it.
+// Whether an edit may have what it asks: refusals 5, 10 and 6, in the order in which they are tested.
 use table::board::PAGE_WORDS;
 use types::Frame;
 use types::Request;
@@ -8,7 +8,7 @@ ghost use mathlib.Core.Path.{_≡_};
 ghost use mathlib.Core.Bool.{true, false, not, _&&_};
 ghost use lib.Dec.{eqb};
 ghost use Rattle.model.specs.Frame.{boundsOk};
-ghost use Rattle.model.specs.Calls.{badRange, meetsLent};
+ghost use Rattle.model.specs.Calls.{badRange, meetsLent, writeExecute};
 ghost use Rattle.table.specs.Board.{frameOver};
 ghost use Rattle.types.specs.Views.{requestOf};
 
@@ -33,6 +33,16 @@ pub fn bad_range(f: Frame, n: usize, q: Request) -> bool
         return true;
     }
     end - start < size
+}
+
+// Document 02, item 6: rwx "in slots 1 to 7 .. Slot 0 keeps it".
+pub fn write_execute(q: Request) -> bool
+    ensures { λ r. ⌜ r ≡ writeExecute (requestOf q) ⌝ }
+{
+    if q.permission != 3 {
+        return false;
+    }
+    q.slot != 0
 }
 
 // "permission not none and the range meets the lent pages"

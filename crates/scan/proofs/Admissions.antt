@@ -40,6 +40,7 @@ some-number refusal.Range e = omega (arith, e)
 some-number refusal.LentPages e = omega (arith, e)
 some-number refusal.NoRoom e = omega (arith, e)
 some-number refusal.Sdid e = omega (arith, e)
+some-number refusal.WriteExecute e = omega (arith, e)
 
 abbrev chosen : Bool → Bool → Admission
 chosen a b = if a then (if b then Granted else Refused refusal.NotSound) else Refused refusal.Frame

@@ -11,7 +11,7 @@ use Rattle.model.specs.Frame.{Frame, frameOk}
 use Rattle.model.specs.Sound.{Slot, freePages, isOpen, roots, sound, soundSlots, soundTable}
 use Rattle.model.specs.Forms.{Request, firstGib, forms}
 use Rattle.model.specs.Stores.{newPages}
-use Rattle.model.specs.Calls.{badRange, editRefusal, editRefusalWith, finished, firstMet, meetsLent, registerFor, rootOf, slotAt}
+use Rattle.model.specs.Calls.{badRange, editRefusal, editRefusalWith, finished, firstMet, meetsLent, registerFor, rootOf, slotAt, writeExecute}
 use Rattle.model.specs.Demands.{Domain}
 use Rattle.laws.proofs.Choices.{and-both, and-true, not-false-true, or-false}
 use Rattle.laws.proofs.Times.{times}
@@ -49,6 +49,7 @@ module _ (F : Frame) (slots : List Slot) (q : Request) where
     pub goodTable : soundTable F m rs ≡ true
     pub slot : (not (ltb (q .slot) 8) || not (isOpen (slotAt slots (q .slot)))) ≡ false
     pub range : badRange F q ≡ false
+    pub allowed : writeExecute q ≡ false
     pub apart : (not (eqb (q .permission) 0) && meetsLent F q) ≡ false
     pub room : newPages F m ro b0 (forms F m q ro) ≤ length (freePages F m rs)
 
@@ -59,7 +60,8 @@ module _ (F : Frame) (slots : List Slot) (q : Request) where
       let b = first-none 2 _ _ (a .1) in
       let c = first-none 3 _ _ (b .1) in
       let d = first-none 4 _ _ (c .1) in
-      let e = first-none 5 _ _ (d .1) in
+      let w = first-none 9 _ _ (d .1) in
+      let e = first-none 5 _ _ (w .1) in
       let f = first-none 6 _ _ (e .1) in
       let s = and-true (soundSlots F slots) (soundTable F m rs) (not-false-true _ (b .0)) in
       record {
@@ -68,6 +70,7 @@ module _ (F : Frame) (slots : List Slot) (q : Request) where
         goodTable = s .1;
         slot = c .0;
         range = d .0;
+        allowed = w .0;
         apart = e .0;
         room = ltb-false _ _ (f .0);
       }
@@ -79,8 +82,9 @@ module _ (F : Frame) (slots : List Slot) (q : Request) where
       (none-first 3 _ _ (ap not (and-both (k .goodSlots) (k .goodTable)))
       (none-first 4 _ _ (k .slot)
       (none-first 5 _ _ (k .range)
+      (none-first 10 _ _ (k .allowed)
       (none-first 6 _ _ (k .apart)
-      (none-first 7 _ _ (le-ltb _ _ (k .room)) first-empty)))))
+      (none-first 7 _ _ (le-ltb _ _ (k .room)) first-empty))))))
 
   module _ (m : List ℕ) (k : Accept m) where
     pub range-of : GoodRange F q

@@ -55,7 +55,7 @@ abbrev pub permissionCodeOf : PermissionCode → Named ℕ
 permissionCodeOf (permissionCode.Known p) = known (permissionNumber p)
 permissionCodeOf permissionCode.Unknown = unknown
 
--- ---- what is answered: a refusal by its number, 1 to 8
+-- ---- what is answered: a refusal by its number, 1 to 8 or 10
 
 -- a lookup: 0 allowed, 256 and the cause for a fault
 abbrev pub answerWord : Answer → ℕ

@@ -71,7 +71,7 @@ causeNumber cause.Fetch = 1
 causeNumber cause.Load = 5
 causeNumber cause.Store = 7
 
--- the numbers of "When the monitor says no"
+-- the numbers of "When the monitor says no", and document 02's
 abbrev pub refusalNumber : Refusal → ℕ
 refusalNumber refusal.Frame = 1
 refusalNumber refusal.Register = 2
@@ -81,6 +81,7 @@ refusalNumber refusal.Range = 5
 refusalNumber refusal.LentPages = 6
 refusalNumber refusal.NoRoom = 7
 refusalNumber refusal.Sdid = 8
+refusalNumber refusal.WriteExecute = 10
 
 -- what a lookup answers
 abbrev pub answerOf : Answer → access.Answer

@@ -59,7 +59,7 @@ pub enum Cause {
     Store,
 }
 
-// Why the monitor says no: 1 to 8, in this order.
+// Why the monitor says no: 1 to 8 in this order, and 10.
 pub enum Refusal {
     Frame,
     Register,
@@ -69,6 +69,7 @@ pub enum Refusal {
     LentPages,
     NoRoom,
     Sdid,
+    WriteExecute,
 }
 
 // What a lookup answers.

@@ -15,7 +15,7 @@ pub fn of_cause(c: Cause) -> u64
     }
 }
 
-// The numbers of "When the monitor says no".
+// The numbers of "When the monitor says no", and document 02's.
 pub fn of_refusal(why: Refusal) -> u64
     ensures { λ r. ⌜ r ≡ refusalNumber why ⌝ }
 {
@@ -28,5 +28,6 @@ pub fn of_refusal(why: Refusal) -> u64
         Refusal::LentPages => 6,
         Refusal::NoRoom => 7,
         Refusal::Sdid => 8,
+        Refusal::WriteExecute => 10,
     }
 }

@@ -38,12 +38,13 @@ pub enum Cause {
     Store = 7,
 }
 
-/// Why the monitor said no, by its number in document 01. Later versions may add numbers.
+/// Why the monitor said no, by its number in documents 01 and 02. Later versions may add numbers.
 ///
 /// ```
 /// # use mpt_monitor::*;
 /// assert_eq!(Refusal::from_number(6), Some(Refusal::MeetsLent));
-/// assert_eq!(Refusal::from_number(0), None);
+/// assert_eq!(Refusal::from_number(10), Some(Refusal::NoWriteExecute));
+/// assert_eq!((Refusal::from_number(0), Refusal::from_number(9)), (None, None));
 /// ```
 ///
 /// So a match needs an arm for those, and without its last line this one does not compile:
@@ -53,7 +54,7 @@ pub enum Cause {
 /// fn may_try_again(refusal: Refusal) -> bool {
 ///     match refusal {
 ///         Refusal::BadFrame | Refusal::BadRegister | Refusal::NotSound | Refusal::BadSlot => false,
-///         Refusal::BadRange | Refusal::MeetsLent | Refusal::BadSdid => false,
+///         Refusal::BadRange | Refusal::MeetsLent | Refusal::BadSdid | Refusal::NoWriteExecute => false,
 ///         Refusal::NoFreePage => true,
 ///         _ => false,
 ///     }
@@ -65,7 +66,7 @@ pub enum Cause {
 /// # fn may_try_again(refusal: Refusal) -> bool {
 /// #   match refusal {
 /// #       Refusal::BadFrame | Refusal::BadRegister | Refusal::NotSound | Refusal::BadSlot => false,
-/// #       Refusal::BadRange | Refusal::MeetsLent | Refusal::BadSdid => false,
+/// #       Refusal::BadRange | Refusal::MeetsLent | Refusal::BadSdid | Refusal::NoWriteExecute => false,
 ///         Refusal::NoFreePage => true,
 ///     }
 /// # }
@@ -81,6 +82,8 @@ pub enum Refusal {
     MeetsLent = 6,
     NoFreePage = 7,
     BadSdid = 8,
+    /// rwx was asked for in one of the slots 1 to 7.
+    NoWriteExecute = 10,
 }
 
 /// The fence that a call asks for. SDID 0 and address 0 are values like any other.
@@ -142,7 +145,7 @@ impl Cause {
 }
 
 impl Refusal {
-    pub const ALL: [Refusal; 8] = [
+    pub const ALL: [Refusal; 9] = [
         Refusal::BadFrame,
         Refusal::BadRegister,
         Refusal::NotSound,
@@ -151,6 +154,7 @@ impl Refusal {
         Refusal::MeetsLent,
         Refusal::NoFreePage,
         Refusal::BadSdid,
+        Refusal::NoWriteExecute,
     ];
 
     #[inline]
@@ -160,8 +164,7 @@ impl Refusal {
 
     #[inline]
     pub fn from_number(number: u64) -> Option<Refusal> {
-        let nth = usize::try_from(number.wrapping_sub(1)).ok()?;
-        Refusal::ALL.get(nth).copied()
+        Refusal::ALL.into_iter().find(|refusal| refusal.number() == number)
     }
 }
 
@@ -178,6 +181,7 @@ impl fmt::Display for Refusal {
             Refusal::MeetsLent => "the range meets the lent pages",
             Refusal::NoFreePage => "too few pages are free",
             Refusal::BadSdid => "the SDID is above 63 or held by another open slot",
+            Refusal::NoWriteExecute => "rwx is for slot 0 alone: in slots 1 to 7 no page gets write and execute together",
         })
     }
 }

@@ -22,6 +22,9 @@ pub fn edit(frame: Frame, words: &mut [u64], slots: &[u64; 8], asked: Asked) -> 
         return Err(BAD_SLOT);
     }
     let (from, to) = pages_of_range(lent, start, length).ok_or(BAD_RANGE)?;
+    if permission == 3 && slot != 0 {
+        return Err(NO_WRITE_EXECUTE);
+    }
     if permission != 0 && from < lent.first + lent.pages && lent.first < to {
         return Err(MEETS_LENT);
     }

@@ -1,4 +1,4 @@
-//! Document 01, with item 3 of document 02, in ordinary safe Rust over words, written for speed: the
+//! Document 01, with items 3 and 6 of document 02, in ordinary safe Rust over words, written for speed: the
 //! yardstick beside which the proved monitor is measured, and a third opinion in tests.
 //!
 //! The calls take any numbers, as those of the C interface in `include/mpt.h` do, and answer values.
@@ -68,3 +68,4 @@ pub(crate) const BAD_RANGE: u64 = 5;
 pub(crate) const MEETS_LENT: u64 = 6;
 pub(crate) const NO_PAGE: u64 = 7;
 pub(crate) const BAD_SDID: u64 = 8;
+pub(crate) const NO_WRITE_EXECUTE: u64 = 10;

@@ -76,6 +76,10 @@ pub fn store_list(frame: Frame, words: &[u64], slots: &Slots, asked: Asked) -> R
     if range_refused(frame, asked) {
         return Err(5);
     }
+    // item 6 of document 02: "refused with 10, tested after 5 and before 6"
+    if asked.permission == 3 && (1..=7).contains(&asked.slot) {
+        return Err(10);
+    }
     if asked.permission != 0 && meets_lent(frame, words, asked) {
         return Err(6);
     }

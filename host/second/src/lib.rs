@@ -1,4 +1,4 @@
-//! Document 01, with item 3 of document 02, again: written from the papers alone and sharing nothing
+//! Document 01, with items 3 and 6 of document 02, again: written from the papers alone and sharing nothing
 //! with the proved monitor.
 //!
 //! The way of thinking here is by maps: a domain is a permission for each page. An edit decodes

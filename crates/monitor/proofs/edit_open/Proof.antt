@@ -1,4 +1,4 @@
--- `monitor::edit_open` meets its contract: the refusals of range, lent pages and room in their order, and then the stores of an accepted edit.
+-- `monitor::edit_open` meets its contract: the refusals of range, permission, lent pages and room in their order, and then the stores of an accepted edit.
 use mathlib.Core.Path.{_≡_, sym, ap, _∙_, subst, subst₃}
 use mathlib.Core.Bool.{not, false, _&&_}
 use mathlib.Core.List.{List}
@@ -13,7 +13,7 @@ use Rattle.model.specs.Frame.{Frame}
 use Rattle.model.specs.Sound.{roots, freePages}
 use Rattle.model.specs.Forms.{Request}
 use Rattle.model.specs.Stores.{Store}
-use Rattle.model.specs.Calls.{slotAt, registerFor, rootOf, refuse, badRange, meetsLent, editRefusal, storeList}
+use Rattle.model.specs.Calls.{slotAt, registerFor, rootOf, refuse, badRange, writeExecute, meetsLent, editRefusal, storeList}
 use Rattle.laws.proofs.FrameNumbers.{framed}
 use Rattle.types.specs.declared.Free.{Free}
 use Rattle.scan.specs.FreeMarks.{listed}
@@ -26,7 +26,7 @@ use Rattle.forms.proofs.BoardShape.{board-shape}
 use Rattle.sequence.proofs.Facts.{accepted-list}
 use Rattle.shapes.specs.Rooted.{Rooted}
 use Rattle.monitor.specs.Edits.{InOpenSlot}
-use Rattle.monitor.proofs.EditRefusals.{noRoom, edit-range, edit-lent, edit-no-room, edit-accepted, edit-done, made-is}
+use Rattle.monitor.proofs.EditRefusals.{noRoom, edit-range, edit-write-execute, edit-lent, edit-no-room, edit-accepted, edit-done, made-is}
 use Rattle.monitor.proofs.FreePages.{listed-front, listed-short}
 use Rattle.shapes.proofs.SlotLaws.{slot-low}
 use Rattle.monitor.proofs.SlotRoots.{rooted-slot}
@@ -61,38 +61,42 @@ low s = slot-low _ _ (given s .okSlot)
 range-passes : (c : tie.Else1) → let s = c .before .before .before in badRange (frameAt s) (request s) ≡ false
 range-passes c = sym (c .before .bad-range .ensures) ∙ c .if1 .left
 
-lent-passes : (c : tie.Else2) → let s = c .before .before .before .before .before in (not (eqb (request s .permission) 0) && meetsLent (frameAt s) (request s)) ≡ false
-lent-passes c = sym (c .before .on-lent-pages .ensures) ∙ c .if2 .left
+ten-passes : (c : tie.Else2) → let s = c .before .before .before .before .before in writeExecute (request s) ≡ false
+ten-passes c = sym (c .before .write-execute .ensures) ∙ c .if2 .left
+
+lent-passes : (c : tie.Else3) → let s = c .before .before .before .before .before .before .before in (not (eqb (request s .permission) 0) && meetsLent (frameAt s) (request s)) ≡ false
+lent-passes c = sym (c .before .on-lent-pages .ensures) ∙ c .if3 .left
 
 -- what is picked from the marks are the free pages
-free-are : (c : tie.After-free-pages) → let s = c .before .before .before .before .before .before in c .free-pages .result ≡ listed (pages s)
-free-are c = c .free-pages .ensures ∙ ap listed (marked-are-free _ _ _ _ (given (c .before .before .before .before .before .before) .marked))
+free-are : (c : tie.After-free-pages) → let s = c .before .before .before .before .before .before .before .before in c .free-pages .result ≡ listed (pages s)
+free-are c = c .free-pages .ensures ∙ ap listed (marked-are-free _ _ _ _ (given (c .before .before .before .before .before .before .before .before) .marked))
 
 -- the new pages of the whole edit, from the slot's own root
-pages-are : (c : tie.After-new-pages) → let s = c .before .before .before .before .before .before .before .before .before in
+pages-are : (c : tie.After-new-pages) → let s = c .before .before .before .before .before .before .before .before .before .before .before in
     c .new-pages .result ≡ wholePages (frameAt s) (memoryOf s) (request s) (rootAt s)
 unfolding rootOf registerFor slotAt
 pages-are c =
-    let s = c .before .before .before .before .before .before .before .before .before in
+    let s = c .before .before .before .before .before .before .before .before .before .before .before in
     c .new-pages .ensures .0 ∙ ap (wholePages (frameAt s) (memoryOf s) (request s)) (c .before .before .ppn .ensures .0)
 
-room-says : (c : tie.After-new-pages) → let s = c .before .before .before .before .before .before .before .before .before in
+room-says : (c : tie.After-new-pages) → let s = c .before .before .before .before .before .before .before .before .before .before .before in
     ltb (c .before .before .before .free-pages .result .count) (c .new-pages .result) ≡ noRoom (frameAt s) (memoryOf s) (s .args .t3) (request s)
 room-says c =
-    let s = c .before .before .before .before .before .before .before .before .before in
+    let s = c .before .before .before .before .before .before .before .before .before .before .before in
     ap (λ (free : Free). ltb (free .count) (c .new-pages .result)) (free-are (c .before .before .before))
     ∙ listed-short (pages s) (c .new-pages .result) (c .new-pages .ensures .1)
     ∙ ap (ltb (length (pages s))) (pages-are c)
 
 -- no refusal fits
-accepted : (c : tie.Else3) → let s = c .before .before .before .before .before .before .before .before .before .before .before in
+accepted : (c : tie.Else4) → let s = c .before .before .before .before .before .before .before .before .before .before .before .before .before in
     editRefusal (frameAt s) (memoryOf s) (s .args .t3) (request s) ≡ 0
 accepted c =
     let k = c .before .before in
     let l = k .before .before .before .before in
-    let s = l .before .before .before .before .before in
-    edit-accepted (frameAt s) (memoryOf s) (s .args .t3) (request s) (s .args .limit) (given s .okFrame) (given s .okTable) (given s .okSlot) (range-passes (l .before .before)) (lent-passes l)
-    (sym (room-says k) ∙ le-ltb (k .before .before .before .free-pages .result .count) (k .new-pages .result) (omega (arith, c .if3 .left)))
+    let t = l .before .before in
+    let s = t .before .before .before .before .before in
+    edit-accepted (frameAt s) (memoryOf s) (s .args .t3) (request s) (s .args .limit) (given s .okFrame) (given s .okTable) (given s .okSlot) (range-passes (t .before .before)) (ten-passes t) (lent-passes l)
+    (sym (room-says k) ∙ le-ltb (k .before .before .before .free-pages .result .count) (k .new-pages .result) (omega (arith, c .if4 .left)))
 
 bad-range-requires : tie.Need-bad-range-requires
 bad-range-requires c κs = framed _ _ (given (c .before) .okFrame) .0
@@ -110,8 +114,8 @@ returns c =
       edit-range (frameAt s) (memoryOf s) (s .args .t3) (request s) (s .args .limit) (given s .okFrame) (given s .okTable) (given s .okSlot) (sym (t .before .bad-range .ensures) ∙ t .if1 .taken),
     )
 
-on-lent-pages-requires : tie.Need-on-lent-pages-requires
-on-lent-pages-requires c κs = (framed _ _ (given (c .before .before .before) .okFrame) .0, range-passes c)
+write-execute-requires : tie.Need-write-execute-requires
+write-execute-requires c κs = search needs
 
 refused-requires-2 : tie.Need-refused-requires-2
 refused-requires-2 c κs = search needs
@@ -124,18 +128,37 @@ returns-2 c =
     let s = r .before .before .before in
     rw (
       c .refused2 .ensures,
-      edit-lent (frameAt s) (memoryOf s) (s .args .t3) (request s) (s .args .limit) (given s .okFrame) (given s .okTable) (given s .okSlot) (range-passes r)
-          (sym (t .before .on-lent-pages .ensures) ∙ t .if2 .taken),
+      edit-write-execute (frameAt s) (memoryOf s) (s .args .t3) (request s) (s .args .limit) (given s .okFrame) (given s .okTable) (given s .okSlot) (range-passes r)
+          (sym (t .before .write-execute .ensures) ∙ t .if2 .taken),
+    )
+
+on-lent-pages-requires : tie.Need-on-lent-pages-requires
+on-lent-pages-requires c κs = let r = c .before .before in (framed _ _ (given (r .before .before .before) .okFrame) .0, range-passes r)
+
+refused-requires-3 : tie.Need-refused-requires-3
+refused-requires-3 c κs = search needs
+
+returns-3 : tie.Need-returns-3
+unfolding refuse
+returns-3 c =
+    let l = c .before in
+    let t = l .before .before in
+    let r = t .before .before in
+    let s = r .before .before .before in
+    rw (
+      c .refused3 .ensures,
+      edit-lent (frameAt s) (memoryOf s) (s .args .t3) (request s) (s .args .limit) (given s .okFrame) (given s .okTable) (given s .okSlot) (range-passes r) (ten-passes t)
+          (sym (l .before .on-lent-pages .ensures) ∙ l .if3 .taken),
     )
 
 free-pages-requires : tie.Need-free-pages-requires
-free-pages-requires c κs = framed _ _ (given (c .before .before .before .before .before) .okFrame) .0
+free-pages-requires c κs = framed _ _ (given (c .before .before .before .before .before .before .before) .okFrame) .0
 
 mul-register : tie.Need-mul-register
-mul-register c = let h = low (c .before .before .before .before .before .before) in omega arith
+mul-register c = let h = low (c .before .before .before .before .before .before .before .before) in omega arith
 
 array-read-register : tie.Need-array-read-register
-array-read-register c = low (c .before .before .before .before .before .before)
+array-read-register c = low (c .before .before .before .before .before .before .before .before)
 
 ppn-requires : tie.Need-ppn-requires
 ppn-requires c κs = search needs
@@ -143,7 +166,7 @@ ppn-requires c κs = search needs
 new-pages-requires : tie.Need-new-pages-requires
 unfolding slotAt
 new-pages-requires c κs =
-    let r = c .before .before .before .before .before in
+    let r = c .before .before .before .before .before .before .before in
     let s = r .before .before .before in
     record {
       small = given s .small;
@@ -153,35 +176,36 @@ new-pages-requires c κs =
           (rooted-slot (s .args .f) (memoryOf s) (s .args .t3) (s .args .q .slot) (given s .okFrame) (given s .okTable) (given s .okSlot));
     }
 
-refused-requires-3 : tie.Need-refused-requires-3
-refused-requires-3 c κs = search needs
+refused-requires-4 : tie.Need-refused-requires-4
+refused-requires-4 c κs = search needs
 
 same-length : tie.Need-same-length
 same-length c = search needs
 
-returns-3 : tie.Need-returns-3
+returns-4 : tie.Need-returns-4
 unfolding refuse
-returns-3 c =
+returns-4 c =
     let full = c .before in
     let k = full .before .before in
     let l = k .before .before .before .before in
-    let s = l .before .before .before .before .before in
+    let t = l .before .before in
+    let s = t .before .before .before .before .before in
     rw (
-      c .refused3 .ensures,
-      edit-no-room (frameAt s) (memoryOf s) (s .args .t3) (request s) (s .args .limit) (given s .okFrame) (given s .okTable) (given s .okSlot) (range-passes (l .before .before)) (lent-passes l)
-          (sym (room-says k) ∙ lt-ltb (k .before .before .before .free-pages .result .count) (k .new-pages .result) (omega (arith, full .if3 .taken))),
+      c .refused4 .ensures,
+      edit-no-room (frameAt s) (memoryOf s) (s .args .t3) (request s) (s .args .limit) (given s .okFrame) (given s .okTable) (given s .okSlot) (range-passes (t .before .before)) (ten-passes t) (lent-passes l)
+          (sym (room-says k) ∙ lt-ltb (k .before .before .before .free-pages .result .count) (k .new-pages .result) (omega (arith, full .if4 .taken))),
     )
 
 sdid-requires : tie.Need-sdid-requires
 sdid-requires c κs = search needs
 
 -- the edit, in the words of the crate that makes the stores
-asks : (c : tie.Else3) → let s = c .before .before .before .before .before .before .before .before .before .before .before in
+asks : (c : tie.Else4) → let s = c .before .before .before .before .before .before .before .before .before .before .before .before .before in
     Prepared (frameAt s) (memoryOf s) (request s) (c .before .before .before .before .ppn .result .0) (freeList (c .before .before .before .before .before .free-pages .result))
 unfolding slotAt registerFor rootOf
 asks c =
     let p = c .before .before .before .before in
-    let k = p .before .before .before .before .before .before in
+    let k = p .before .before .before .before .before .before .before .before in
     let s = k .before in
     record {
       small = given s .small;
@@ -198,14 +222,14 @@ make-requires c κs = asks (c .before .before)
 same-length-2 : tie.Need-same-length-2
 same-length-2 c = search needs
 
-returns-4 : tie.Need-returns-4
+returns-5 : tie.Need-returns-5
 unfolding asks slotAt registerFor rootOf
-returns-4 c =
+returns-5 c =
     let k = c .before .before in
     let d = k .before .before in
     let x = d .before in
     let p = x .before .before .before .before in
-    let s = p .before .before .before .before .before .before .before in
+    let s = p .before .before .before .before .before .before .before .before .before in
     let a = s .args in
     let m = memoryOf s in
     let F = frameAt s in
@@ -224,18 +248,21 @@ edit-open-spec =
     bad-range-requires
     refused-requires
     returns
-    on-lent-pages-requires
+    write-execute-requires
     refused-requires-2
     returns-2
+    on-lent-pages-requires
+    refused-requires-3
+    returns-3
     free-pages-requires
     mul-register
     array-read-register
     ppn-requires
     new-pages-requires
-    refused-requires-3
+    refused-requires-4
     same-length
-    returns-3
+    returns-4
     sdid-requires
     make-requires
     same-length-2
-    returns-4)
+    returns-5)
