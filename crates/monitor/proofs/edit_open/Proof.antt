@@ -57,45 +57,60 @@ given s = s .pre
 low : (s : tie.Start) → s .args .q .slot < 8
 low s = slot-low _ _ (given s .okSlot)
 
+-- from a place of the call back to its start: past the tests for 5, 10 and 6, where the free and the new pages are known, past the test for 7
+abbrev past5 : tie.Else1 → tie.Start
+past5 c = c .before .before .before
+
+abbrev past10 : tie.Else2 → tie.Start
+past10 c = past5 (c .before .before)
+
+abbrev past6 : tie.Else3 → tie.Start
+past6 c = past10 (c .before .before)
+
+abbrev atFree : tie.After-free-pages → tie.Start
+atFree c = past6 (c .before)
+
+abbrev atNew : tie.After-new-pages → tie.Start
+atNew c = atFree (c .before .before .before)
+
+abbrev past7 : tie.Else4 → tie.Start
+past7 c = atNew (c .before .before)
+
 -- the tests that were passed
-range-passes : (c : tie.Else1) → let s = c .before .before .before in badRange (frameAt s) (request s) ≡ false
-range-passes c = sym (c .before .bad-range .ensures) ∙ c .if1 .left
+five : (c : tie.Else1) → let s = past5 c in badRange (frameAt s) (request s) ≡ false
+five c = sym (c .before .bad-range .ensures) ∙ c .if1 .left
 
-ten-passes : (c : tie.Else2) → let s = c .before .before .before .before .before in writeExecute (request s) ≡ false
-ten-passes c = sym (c .before .write-execute .ensures) ∙ c .if2 .left
+ten : (c : tie.Else2) → let s = past10 c in writeExecute (request s) ≡ false
+ten c = sym (c .before .write-execute .ensures) ∙ c .if2 .left
 
-lent-passes : (c : tie.Else3) → let s = c .before .before .before .before .before .before .before in (not (eqb (request s .permission) 0) && meetsLent (frameAt s) (request s)) ≡ false
-lent-passes c = sym (c .before .on-lent-pages .ensures) ∙ c .if3 .left
+six : (c : tie.Else3) → let s = past6 c in (not (eqb (request s .permission) 0) && meetsLent (frameAt s) (request s)) ≡ false
+six c = sym (c .before .on-lent-pages .ensures) ∙ c .if3 .left
 
 -- what is picked from the marks are the free pages
-free-are : (c : tie.After-free-pages) → let s = c .before .before .before .before .before .before .before .before in c .free-pages .result ≡ listed (pages s)
-free-are c = c .free-pages .ensures ∙ ap listed (marked-are-free _ _ _ _ (given (c .before .before .before .before .before .before .before .before) .marked))
+free-are : (c : tie.After-free-pages) → c .free-pages .result ≡ listed (pages (atFree c))
+free-are c = c .free-pages .ensures ∙ ap listed (marked-are-free _ _ _ _ (given (atFree c) .marked))
 
 -- the new pages of the whole edit, from the slot's own root
-pages-are : (c : tie.After-new-pages) → let s = c .before .before .before .before .before .before .before .before .before .before .before in
-    c .new-pages .result ≡ wholePages (frameAt s) (memoryOf s) (request s) (rootAt s)
+pages-are : (c : tie.After-new-pages) → let s = atNew c in c .new-pages .result ≡ wholePages (frameAt s) (memoryOf s) (request s) (rootAt s)
 unfolding rootOf registerFor slotAt
 pages-are c =
-    let s = c .before .before .before .before .before .before .before .before .before .before .before in
+    let s = atNew c in
     c .new-pages .ensures .0 ∙ ap (wholePages (frameAt s) (memoryOf s) (request s)) (c .before .before .ppn .ensures .0)
 
-room-says : (c : tie.After-new-pages) → let s = c .before .before .before .before .before .before .before .before .before .before .before in
+room-says : (c : tie.After-new-pages) → let s = atNew c in
     ltb (c .before .before .before .free-pages .result .count) (c .new-pages .result) ≡ noRoom (frameAt s) (memoryOf s) (s .args .t3) (request s)
 room-says c =
-    let s = c .before .before .before .before .before .before .before .before .before .before .before in
     ap (λ (free : Free). ltb (free .count) (c .new-pages .result)) (free-are (c .before .before .before))
-    ∙ listed-short (pages s) (c .new-pages .result) (c .new-pages .ensures .1)
-    ∙ ap (ltb (length (pages s))) (pages-are c)
+    ∙ listed-short (pages (atNew c)) (c .new-pages .result) (c .new-pages .ensures .1)
+    ∙ ap (ltb (length (pages (atNew c)))) (pages-are c)
 
 -- no refusal fits
-accepted : (c : tie.Else4) → let s = c .before .before .before .before .before .before .before .before .before .before .before .before .before in
-    editRefusal (frameAt s) (memoryOf s) (s .args .t3) (request s) ≡ 0
+accepted : (c : tie.Else4) → let s = past7 c in editRefusal (frameAt s) (memoryOf s) (s .args .t3) (request s) ≡ 0
 accepted c =
     let k = c .before .before in
     let l = k .before .before .before .before in
     let t = l .before .before in
-    let s = t .before .before .before .before .before in
-    edit-accepted (frameAt s) (memoryOf s) (s .args .t3) (request s) (s .args .limit) (given s .okFrame) (given s .okTable) (given s .okSlot) (range-passes (t .before .before)) (ten-passes t) (lent-passes l)
+    edit-accepted (past7 c .args .limit) (given (past7 c)) (five (t .before .before)) (ten t) (six l)
     (sym (room-says k) ∙ le-ltb (k .before .before .before .free-pages .result .count) (k .new-pages .result) (omega (arith, c .if4 .left)))
 
 bad-range-requires : tie.Need-bad-range-requires
@@ -109,10 +124,7 @@ unfolding refuse
 returns c =
     let t = c .before in
     let s = t .before .before .before in
-    rw (
-      c .refused .ensures,
-      edit-range (frameAt s) (memoryOf s) (s .args .t3) (request s) (s .args .limit) (given s .okFrame) (given s .okTable) (given s .okSlot) (sym (t .before .bad-range .ensures) ∙ t .if1 .taken),
-    )
+    rw (c .refused .ensures, edit-range (s .args .limit) (given s) (sym (t .before .bad-range .ensures) ∙ t .if1 .taken))
 
 write-execute-requires : tie.Need-write-execute-requires
 write-execute-requires c κs = search needs
@@ -125,15 +137,11 @@ unfolding refuse
 returns-2 c =
     let t = c .before in
     let r = t .before .before in
-    let s = r .before .before .before in
-    rw (
-      c .refused2 .ensures,
-      edit-write-execute (frameAt s) (memoryOf s) (s .args .t3) (request s) (s .args .limit) (given s .okFrame) (given s .okTable) (given s .okSlot) (range-passes r)
-          (sym (t .before .write-execute .ensures) ∙ t .if2 .taken),
-    )
+    let s = past5 r in
+    rw (c .refused2 .ensures, edit-write-execute (s .args .limit) (given s) (five r) (sym (t .before .write-execute .ensures) ∙ t .if2 .taken))
 
 on-lent-pages-requires : tie.Need-on-lent-pages-requires
-on-lent-pages-requires c κs = let r = c .before .before in (framed _ _ (given (r .before .before .before) .okFrame) .0, range-passes r)
+on-lent-pages-requires c κs = (framed _ _ (given (past10 c) .okFrame) .0, five (c .before .before))
 
 refused-requires-3 : tie.Need-refused-requires-3
 refused-requires-3 c κs = search needs
@@ -143,22 +151,17 @@ unfolding refuse
 returns-3 c =
     let l = c .before in
     let t = l .before .before in
-    let r = t .before .before in
-    let s = r .before .before .before in
-    rw (
-      c .refused3 .ensures,
-      edit-lent (frameAt s) (memoryOf s) (s .args .t3) (request s) (s .args .limit) (given s .okFrame) (given s .okTable) (given s .okSlot) (range-passes r) (ten-passes t)
-          (sym (l .before .on-lent-pages .ensures) ∙ l .if3 .taken),
-    )
+    let s = past10 t in
+    rw (c .refused3 .ensures, edit-lent (s .args .limit) (given s) (five (t .before .before)) (ten t) (sym (l .before .on-lent-pages .ensures) ∙ l .if3 .taken))
 
 free-pages-requires : tie.Need-free-pages-requires
-free-pages-requires c κs = framed _ _ (given (c .before .before .before .before .before .before .before) .okFrame) .0
+free-pages-requires c κs = framed _ _ (given (past6 c) .okFrame) .0
 
 mul-register : tie.Need-mul-register
-mul-register c = let h = low (c .before .before .before .before .before .before .before .before) in omega arith
+mul-register c = let h = low (atFree c) in omega arith
 
 array-read-register : tie.Need-array-read-register
-array-read-register c = low (c .before .before .before .before .before .before .before .before)
+array-read-register c = low (atFree c)
 
 ppn-requires : tie.Need-ppn-requires
 ppn-requires c κs = search needs
@@ -166,12 +169,12 @@ ppn-requires c κs = search needs
 new-pages-requires : tie.Need-new-pages-requires
 unfolding slotAt
 new-pages-requires c κs =
-    let r = c .before .before .before .before .before .before .before in
-    let s = r .before .before .before in
+    let l = c .before .before .before in
+    let s = past6 l in
     record {
       small = given s .small;
       okFrame = given s .okFrame;
-      range = range-passes r;
+      range = five (l .before .before .before .before);
       rooted = subst (Rooted (frameAt s) (memoryOf s)) (sym (c .before .ppn .ensures .0))
           (rooted-slot (s .args .f) (memoryOf s) (s .args .t3) (s .args .q .slot) (given s .okFrame) (given s .okTable) (given s .okSlot));
     }
@@ -189,10 +192,10 @@ returns-4 c =
     let k = full .before .before in
     let l = k .before .before .before .before in
     let t = l .before .before in
-    let s = t .before .before .before .before .before in
+    let s = past10 t in
     rw (
       c .refused4 .ensures,
-      edit-no-room (frameAt s) (memoryOf s) (s .args .t3) (request s) (s .args .limit) (given s .okFrame) (given s .okTable) (given s .okSlot) (range-passes (t .before .before)) (ten-passes t) (lent-passes l)
+      edit-no-room (s .args .limit) (given s) (five (t .before .before)) (ten t) (six l)
           (sym (room-says k) ∙ lt-ltb (k .before .before .before .free-pages .result .count) (k .new-pages .result) (omega (arith, full .if4 .taken))),
     )
 
@@ -200,13 +203,14 @@ sdid-requires : tie.Need-sdid-requires
 sdid-requires c κs = search needs
 
 -- the edit, in the words of the crate that makes the stores
-asks : (c : tie.Else4) → let s = c .before .before .before .before .before .before .before .before .before .before .before .before .before in
+asks : (c : tie.Else4) → let s = past7 c in
     Prepared (frameAt s) (memoryOf s) (request s) (c .before .before .before .before .ppn .result .0) (freeList (c .before .before .before .before .before .free-pages .result))
 unfolding slotAt registerFor rootOf
 asks c =
     let p = c .before .before .before .before in
-    let k = p .before .before .before .before .before .before .before .before in
-    let s = k .before in
+    let t = p .before .before .before .before in
+    let k = t .before .before .before .before in
+    let s = past7 c in
     record {
       small = given s .small;
       slots = s .args .t3;
@@ -229,7 +233,7 @@ returns-5 c =
     let d = k .before .before in
     let x = d .before in
     let p = x .before .before .before .before in
-    let s = p .before .before .before .before .before .before .before .before .before in
+    let s = past7 x in
     let a = s .args in
     let m = memoryOf s in
     let F = frameAt s in
