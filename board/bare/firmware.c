@@ -72,7 +72,7 @@ static int start_up(struct firmware *kept, uint64_t *words, uint64_t power_on)
         return 0;
     if (kept->under_way) {
         mpt_edited answer = make_recorded(kept, words);
-        (void)answer; /* if it is refused, it was refused before the reset too, and changed nothing */
+        (void)answer; /* if it is refused, this library refused it before the reset too, and nothing has changed */
     }
     fence_all(); /* also for what was made before the reset, and not fenced */
     put_word(&kept->under_way, 0);
@@ -84,8 +84,9 @@ const struct plan plan[STEPS] = {
     {EDIT_RANGE, 0, 0, 0x40000000, 0x1000, MPT_RW},
     {EDIT_RANGE, 0, 0, 0x40003000, 0x1000, MPT_RX}, /* one store, and a fence of one address */
     {OPEN_SLOT, 1, 0, 0, 0, MPT_NONE},
-    {EDIT_RANGE, 1, 0, 0xc0200000, 0x200000, MPT_RWX},
-    {EDIT_RANGE, 1, 0, 0x8000f000, 0x1000, MPT_RWX}, /* a lent page: refused */
+    {EDIT_RANGE, 1, 0, 0xc0200000, 0x200000, MPT_RW},
+    {EDIT_RANGE, 1, 0, 0xc0200000, 0x1000, MPT_RWX}, /* write and execute together: refused, but in slot 0 */
+    {EDIT_RANGE, 1, 0, 0x8000f000, 0x1000, MPT_RW}, /* a lent page: refused */
     {CLOSE_SLOT, 1, 0, 0, 0, MPT_NONE},
     {OPEN_SLOT, 1, 0, 0, 0, MPT_NONE},                  /* the same SDID once more */
     {EDIT_RANGE, 0, 0, 0x40000000, 0x40000000, MPT_RW}, /* the L1 page is unlinked */

@@ -1,7 +1,7 @@
 /* A small firmware around the library, as docs/BOARD.md tells it: what it keeps over a reset, and its calls. */
 #include "mpt.h"
 
-enum { PAW = 32, FIRST_PAGE = 0x80000, PAGES = 16, COUNT = PAGES * MPT_PAGE_WORDS, STEPS = 9 };
+enum { PAW = 32, FIRST_PAGE = 0x80000, PAGES = 16, COUNT = PAGES * MPT_PAGE_WORDS, STEPS = 10 };
 
 /* What outlives a reset, beside the lent table memory. Each word is written by one store. */
 struct firmware {

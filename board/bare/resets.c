@@ -20,14 +20,14 @@ static void power_on(void)
     KEPT->power_on = 1;
 }
 
-/* A step of the plan by the second program, on the slots of its own. The edit of a lent page is refused. */
+/* A step of the plan by the second program, on the slots of its own. The edit of a lent page is refused, and that to rwx. */
 static void make_planned(const struct plan *step)
 {
     if (step->what == CLOSE_SLOT)
         KEPT->slots[step->slot] = 0;
     else if (step->what == OPEN_SLOT)
         make(&(struct step){OPEN, {step->slot, 0, 0, 0}, step->sdid});
-    else if (step->start / PAGE < FIRST || step->start / PAGE >= FIRST + PAGES)
+    else if (step->permission.value != RWX && (step->start / PAGE < FIRST || step->start / PAGE >= FIRST + PAGES))
         make(&(struct step){EDIT, {step->slot, step->start, step->length, step->permission.value}, 0});
 }
 

@@ -6,7 +6,8 @@
 #define EDITS(slot, start, length, permission) {EDIT, {slot, start, length, permission}, 0}
 #define EDIT_C EDITS(EDITED, GIB, PAGE, RW)
 #define EDIT_G EDITS(EDITED, GIB, GIB, RW)
-/* A second domain, with SDID 0: an L1 page, pieces and a whole GiB, some of it where the first domain is edited. */
+/* A second domain, with SDID 0: an L1 page, pieces and a whole GiB, some of it where the first domain is edited, and some of it rwx, as from
+ * before document 02's item 6. */
 #define TWO_DOMAINS OPENS(EDITED, 5), OPENS(OTHER, 0), EDITS(OTHER, GIB + 0x2001000, 0x302000, RWX), EDITS(OTHER, 3 * GIB, GIB, RX)
 
 const struct scenario scenarios[SCENARIOS] = {

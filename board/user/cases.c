@@ -1,5 +1,5 @@
-/* The bench cases of document 01, A to K, and V, as crates/cases names that of document 02, item 3, by the library alone. One line for each
- * answer; the expected ones are the papers' own numbers, or follow from their text by hand. `bench_cases` returns how many were wrong. */
+/* The bench cases of document 01, A to K, and V and W, as crates/cases names those of document 02, items 3 and 6, by the library alone. One
+ * line for each answer; the expected ones are the papers' own numbers, or follow from their text by hand. `bench_cases` returns how many were wrong. */
 #include "mpt.h"
 #include "say.h"
 #include "second.h"
@@ -192,6 +192,31 @@ static void case_v(void)
     memory("V");
 }
 
+/* Document 02, item 6: "An edit asking for rwx in slots 1 to 7 is refused with 10, tested after 5 and before 6. Slot 0 keeps it." */
+static uint64_t edit_other(uint64_t slot, uint64_t start, uint64_t length, mpt_permission permission)
+{
+    return mpt_edit(PAW, FIRST, words, count, slots, mpt_to_slot(slot), mpt_to_address(start), length, permission, LIMIT).word;
+}
+
+static void case_w(void)
+{
+    new_domain(PAGES);
+    for (uint64_t slot = 1; slot < MPT_SLOTS; slot++) {
+        mpt_opened answer = mpt_open(PAW, FIRST, words, count, slots, mpt_to_slot(slot), mpt_to_sdid(slot == 1 ? 0 : slot + 5));
+        expect("W: the next slot opened", mpt_write_opened(slots, mpt_to_slot(slot), answer), 1);
+        expect("W: rwx in it", edit_other(slot, 0x40000000, 0x1000, MPT_RWX), MPT_NO_WRITE_EXECUTE);
+    }
+    made("W: rwx in slot 0", page(0x40000000, MPT_RWX), 544, 1, MPT_FENCE_DOMAIN);
+    expect("W: fetch", look(MPT_FETCH, 0x40000000), MPT_FINE);
+    expect("W: store", look(MPT_STORE, 0x40000000), MPT_FINE);
+    expect("W: in slot 1 on a lent page", edit_other(1, 0x8000f000, 0x1000, MPT_RWX), MPT_NO_WRITE_EXECUTE);
+    expect("W: in slot 0 on a lent page", edit_other(0, 0x8000f000, 0x1000, MPT_RWX), MPT_MEETS_LENT);
+    expect("W: in slot 1, not whole pages", edit_other(1, 0x8000f000, 0x800, MPT_RWX), MPT_BAD_RANGE);
+    /* 544 stores, all, and the fence of domain 0, as mpt.h has the bits */
+    expect("W: rx in slot 1", edit_other(1, 0x40000000, 0x1000, MPT_RX), UINT64_C(544) << 18 | 1 << 10 | 1 << 9 | 1 << 8);
+    memory("W");
+}
+
 static void other_calls(void)
 {
     expect("check", mpt_sound(PAW, FIRST, words, count, slots).word, MPT_FINE);
@@ -230,6 +255,7 @@ uint64_t bench_cases(void)
     cases_f_to_h();
     cases_i_to_k();
     case_v();
+    case_w();
     other_calls();
     return wrong;
 }

@@ -1,4 +1,4 @@
-/* Cases A, C, E and F of document 01, V for item 3 of document 02, arguments outside their kind, the parts of answers, cut edits and the slots
+/* Cases A, C, E and F of document 01, V and W for items 3 and 6 of document 02, arguments outside their kind, the parts of answers, cut edits and the slots
  * after them, written against mpt.h alone. Every number is the papers', or follows from them by hand. Exit status 0 if all answers are right. */
 #include "mpt.h"
 
@@ -132,6 +132,40 @@ static void case_v(void)
     looked("V: load of page 0 without it", look(MPT_LOAD, 0x40000000), 1, 0, 0);
 }
 
+/* No rwx in slots 1 to 7: the domain of slot 0, once in slot 1. The page that slot 0 made rwx stays so beside an edit. */
+static void case_w(void)
+{
+    static const uint64_t lent = 0x8000F000;
+    uint64_t here = slots[0], zero[MPT_SLOTS] = {here}, one[MPT_SLOTS] = {0, here}, seven[MPT_SLOTS] = {0, 0, 0, 0, 0, 0, 0, here};
+    struct {
+        const char *what;
+        const uint64_t *slots;
+        uint64_t slot, start, length;
+        mpt_permission permission;
+        uint64_t refused;
+    } edits[] = {
+        {"W: rwx in slot 1", one, 1, 0x40005000, 0x1000, MPT_RWX, MPT_NO_WRITE_EXECUTE},
+        {"W: rwx in slot 7", seven, 7, 0x40005000, 0x1000, MPT_RWX, MPT_NO_WRITE_EXECUTE},
+        {"W: over the lent pages", one, 1, lent, 0x1000, MPT_RWX, MPT_NO_WRITE_EXECUTE},
+        {"W: over the lent pages, slot 0", zero, 0, lent, 0x1000, MPT_RWX, MPT_MEETS_LENT},
+        {"W: bad range", one, 1, lent, 0x800, MPT_RWX, MPT_BAD_RANGE},
+        {"W: empty slot", one, 7, 0x40005000, 0x1000, MPT_RWX, MPT_BAD_SLOT},
+        {"W: rx in slot 1", one, 1, 0x40005000, 0x1000, MPT_RX, 0},
+        {"W: rw in slot 1", one, 1, 0x40005000, 0x1000, MPT_RW, 0},
+        {"W: rwx in slot 0", zero, 0, 0x40005000, 0x1000, MPT_RWX, 0},
+        {"W: rwx again in slot 1", one, 1, 0x40005000, 0x1000, MPT_RWX, MPT_NO_WRITE_EXECUTE},
+        {"W: rw beside it in slot 1", one, 1, 0x40006000, 0x1000, MPT_RW, 0},
+    };
+    for (size_t k = 0; k < sizeof edits / sizeof *edits; k++) {
+        mpt_edited answer = mpt_edit(PAW, FIRST, words, COUNT, edits[k].slots, mpt_to_slot(edits[k].slot), mpt_to_address(edits[k].start),
+                                     edits[k].length, edits[k].permission, MPT_MOST_STORES);
+        expect(edits[k].what, mpt_refused(answer), edits[k].refused);
+        expect(edits[k].what, mpt_stores(answer), edits[k].refused ? 0 : 1);
+    }
+    expect("W: L1 entry 0", words[512], 0x2301002);
+    expect("W: sound", (uint64_t)mpt_is_sound(mpt_sound(PAW, FIRST, words, COUNT, one)), 1);
+}
+
 static void codes(void)
 {
     expect("sound", (uint64_t)mpt_is_sound(mpt_sound(PAW, FIRST, words, COUNT, slots)), 1);
@@ -243,6 +277,7 @@ int main(void)
     case_e();
     case_f();
     case_v();
+    case_w();
     codes();
     lookups_by_slot();
     cut_edits();
@@ -255,6 +290,6 @@ int main(void)
     bounds("too many pages", PAW, MPT_MOST_PAGES + 1, 0);
     close_bench();
     if (wrong == 0)
-        puts("C interface: cases A, C, E, F and V as the papers say");
+        puts("C interface: cases A, C, E, F, V and W as the papers say");
     return wrong == 0 ? 0 : 1;
 }

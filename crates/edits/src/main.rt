@@ -1,5 +1,5 @@
 // Document 01's bench cases C to K, each on a new domain of slot 0 with SDID 5, and edits of our own: limits, fences, a range over two
-// GiBs, refusals. The memory is 16 pages from page 0x80000, full of ones before the first call; case K has two pages. Each line is one
+// GiBs, no rwx in slot 1, refusals. The memory is 16 pages from page 0x80000, full of ones before the first call; case K has two pages. Each line is one
 // call, or entries as they stand.
 mod bench;
 mod say;
@@ -203,6 +203,23 @@ fn two_gibs(words: &mut [u64; 8192]) {
     l2(words, 96);
 }
 
+// Document 02, item 6: the same domain in slot 1 and in slot 0, which keeps rwx. A page that is rwx stays so until it is edited.
+fn no_rwx(words: &mut [u64; 8192]) {
+    text(b"no rwx in slot 1\n");
+    let slots = open(words, 5);
+    let f = frame(32);
+    let one = [0, slots[0], 0, 0, 0, 0, 0, 0];
+    let one = edit_in(f, words, one, 1, Permission::Rwx, 0x4000_0000, 0x1000, 1536);
+    let one = edit_in(f, words, one, 1, Permission::Rwx, 0x8000_F000, 0x1000, 1536);
+    let one = edit_in(f, words, one, 1, Permission::Rwx, 0x8000_F000, 0x800, 1536);
+    let one = edit_in(f, words, one, 1, Permission::Rx, 0x4000_0000, 0x1000, 1536);
+    page(words, slots, Permission::Rwx, 0x4000_0000);
+    l1(words, 1, 0);
+    let one = edit_in(f, words, one, 1, Permission::Rwx, 0x4000_0000, 0x1000, 0);
+    edit_in(f, words, one, 1, Permission::Rw, 0x4000_1000, 0x1000, 1536);
+    l1(words, 1, 0);
+}
+
 // Refusals 4 and 5: each comes before those with a higher number.
 fn refusals(words: &mut [u64; 8192]) -> [u64; 8] {
     text(b"refusals\n");
@@ -247,6 +264,7 @@ fn main() {
     limits(&mut words);
     sdid_0(&mut words);
     two_gibs(&mut words);
+    no_rwx(&mut words);
     let slots = refusals(&mut words);
     not_sound(&mut words, slots);
 }

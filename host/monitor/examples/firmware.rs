@@ -183,7 +183,7 @@ fn jobs() -> [Job; 6] {
         edit(0, 0x4000_1000, 0x0200_0000, Permission::Rw),
         edit(0, 0x4000_0000, 0x1000, Permission::Rx),
         Job::Open(Slot(1), Sdid(6)),
-        edit(1, 0xC000_0000, 0x4000_0000, Permission::Rwx),
+        edit(1, 0xC000_0000, 0x4000_0000, Permission::Rw),
         Job::Close(Slot(1)),
     ]
 }

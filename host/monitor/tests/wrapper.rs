@@ -131,7 +131,7 @@ fn words_are_read_as_the_header_says() {
 fn what_no_call_has_done_is_read_alike_by_all() {
     let edit = |word| word::edited(word, Address(0));
     for read in [word::looked, word::opened, word::closed, word::sound, edit] {
-        for (word, refusal) in (1..).zip(Refusal::ALL) {
+        for (word, refusal) in [1, 2, 3, 4, 5, 6, 7, 8, 10].into_iter().zip(Refusal::ALL) {
             assert_eq!(read(word), Answer::Refused(refusal));
             assert_eq!(refusal.number(), word);
         }

@@ -53,6 +53,10 @@ const fn refused(refusal: Refusal) -> Paper {
     Paper::Call(Answer::Refused(refusal))
 }
 
+const fn opens(register: u64) -> Paper {
+    Paper::Call(Answer::Opened(Register(register)))
+}
+
 /// All stores made, and a fence of domain 5.
 const fn all(stores: u64) -> Paper {
     edited(stores, true, Fence::Domain(Sdid(5)))
@@ -69,7 +73,7 @@ const fn edited(stores: u64, all: bool, fence: Fence) -> Paper {
 
 /// "PAW 32, 16 pages from page 0x80000, slot 0 opened with SDID 5", and then the case. In `look`
 /// stands the domain's register and S mode. Words 0 to 511 are the root, from 512 the next page.
-const CASES: [Case; 12] = [
+const CASES: [Case; 13] = [
     Case { name: "A", pages: 16, steps: &[("look load 0x40000000", fault(Cause::Load))] },
     Case {
         name: "B",
@@ -188,6 +192,36 @@ const CASES: [Case; 12] = [
             ("look load 0x4002F000", fault(Cause::Load)),
             ("look store 0x4003F000", fault(Cause::Store)),
             ("close 0", refused(Refusal::NotSound)),
+        ],
+    },
+    // document 02, item 6: no rwx in slots 1 to 7, "tested after 5 and before 6. Slot 0 keeps it."
+    Case {
+        name: "W",
+        pages: 16,
+        steps: &[
+            ("open 1 0", opens(0x1000_0000_0008_0001)),
+            ("open 7 6", opens(0x1180_0000_0008_0002)),
+            ("edit 1 0x40000000 0x1000 rwx 1536", refused(Refusal::NoWriteExecute)),
+            ("edit 7 0x40000000 0x1000 rwx 1536", refused(Refusal::NoWriteExecute)),
+            ("edit 2 0x40000000 0x1000 rwx 1536", refused(Refusal::BadSlot)),
+            ("edit 1 0x8000F000 0x800 rwx 1536", refused(Refusal::BadRange)),
+            ("edit 1 0x8000F000 0x1000 rwx 1536", refused(Refusal::NoWriteExecute)),
+            ("edit 0 0x8000F000 0x1000 rwx 1536", refused(Refusal::MeetsLent)),
+            ("edit 0 0x40000000 0x1000 rwx 1536", all(544)),
+            ("look fetch 0x40000000", ALLOWED),
+            ("look store 0x40000000", ALLOWED),
+            ("edit 1 0x40000000 0x1000 none 1536", edited(0, true, Fence::None)),
+            ("edit 1 0x40000000 0x1000 rx 1536", edited(544, true, Fence::Domain(Sdid(0)))),
+            ("edit 1 0x40000000 0x1000 rw 1536", edited(1, true, Fence::Address(Address(0x4000_0000), Sdid(0)))),
+            // "Pages already rwx stay so until edited": block 96 of slot 1, from before, and one page of it edited
+            ("poke 608 0x0000300000000000", Paper::Done),
+            ("sound", Paper::Call(Answer::Sound)),
+            ("edit 1 0xC0000000 0x1000 rwx 1536", refused(Refusal::NoWriteExecute)),
+            ("edit 1 0xC0000000 0x1000 rx 1536", edited(544, true, Fence::Domain(Sdid(0)))),
+            ("peek 2560", Paper::Words(1, 0x3333_3333_3333_3331)),
+            ("peek 2561 511", Paper::Words(511, 0x3333_3333_3333_3333)),
+            // as of an edit that began before the rule: page 0xC0001000 is rwx already
+            ("edit 1 0xC0000000 0x2000 rwx 1536", refused(Refusal::NoWriteExecute)),
         ],
     },
 ];

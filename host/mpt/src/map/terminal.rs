@@ -193,10 +193,10 @@ mod tests {
 
     const LINES: [&str; 8] = [
         "frame 31 0x40000 3",
-        "open 2 9",
-        "edit 2 0 0x40000000 rwx 1536",
-        "edit 2 0x42000000 0x1000 rw 1536",
-        "edit 2 0x41e00000 0x200000 rx 1536",
+        "open 0 9",
+        "edit 0 0 0x40000000 rwx 1536",
+        "edit 0 0x42000000 0x1000 rw 1536",
+        "edit 0 0x41e00000 0x200000 rx 1536",
         "poke 0 0x100000000000",
         "poke 1 0x200000000000",
         "poke 2 0x500000000000",
@@ -209,7 +209,7 @@ mod tests {
         let rows: Vec<&str> = text.lines().filter(|line| line.starts_with("0x")).collect();
         assert_eq!(rows[0], format!("0x000000000  x w !!{}", "a ".repeat(29).trim_end()));
         assert_eq!(rows[1], format!("0x040000000  X:W*{}", ".:".repeat(30)));
-        assert!(text.contains("  0x040000  R2 P2 ..\n"));
+        assert!(text.contains("  0x040000  R0 P0 ..\n"));
         assert!(text.contains("NOT SOUND"));
         assert!(!text.contains('\x1b') && draw(&picture, true, false).contains("\x1b["));
         assert_eq!(text.lines().find(|line| line.chars().count() > 100), None);

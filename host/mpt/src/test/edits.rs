@@ -4,7 +4,7 @@ use super::generate::{permission, slot};
 use super::layout::{entries, linked, within_bounds};
 use super::places::{Odd, Places, UNITS};
 use crate::random::Random;
-use mpt_monitor::{Address, Edit, Register, Slot, Table};
+use mpt_monitor::{Address, Edit, Permission, Register, Slot, Table};
 use std::ops::Range;
 
 /// An edit: mostly of an open slot and a good range.
@@ -27,7 +27,7 @@ pub fn edit(random: &mut Random, table: &Table, places: &Places) -> Edit {
         slot,
         start: Address(range.start),
         length: range.end - range.start,
-        permission: permission(random),
+        permission: permission_in(random, slot),
         limit: limit(random),
     };
     // two wrongs at once show which refusal comes first
@@ -45,7 +45,15 @@ pub fn for_a_new_page(random: &mut Random, table: &Table) -> Option<Edit> {
     let without: Vec<u64> = (0..).zip(root).filter(|(_, entry)| linked(**entry).is_none()).map(|(n, _)| n).collect();
     let block = if without.is_empty() { return None } else { random.pick(&without) };
     let start = Address((block << 25) + (random.edge(8192) << 12));
-    Some(Edit { slot, start, length: 4096, permission: permission(random), limit: limit(random) })
+    Some(Edit { slot, start, length: 4096, permission: permission_in(random, slot), limit: limit(random) })
+}
+
+/// What an edit of a slot asks for: rwx in slots 1 to 7 less often, since it is refused there.
+fn permission_in(random: &mut Random, slot: Slot) -> Permission {
+    match permission(random) {
+        Permission::Rwx if slot != Slot(0) && random.percent(60) => random.pick(&Permission::ALL[..3]),
+        any => any,
+    }
 }
 
 /// Mostly an edit that makes a GiB whole again, or just not.
@@ -60,7 +68,7 @@ fn over_odd(random: &mut Random, odd: &Odd) -> Edit {
         slot: Slot(odd.slot),
         start: Address(range.start),
         length: range.end - range.start,
-        permission: if random.percent(75) { odd.rest } else { permission(random) },
+        permission: if random.percent(75) { odd.rest } else { permission_in(random, Slot(odd.slot)) },
         limit: limit(random),
     }
 }

@@ -22,6 +22,7 @@ mod sequence;
 mod start;
 mod sweep;
 mod tally;
+mod together;
 mod trial;
 mod workers;
 
