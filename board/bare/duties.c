@@ -23,14 +23,20 @@ static void event(void)
     events++;
 }
 
+/* 10, rwx in slots 1 to 7, and 6, a permission on the lent pages: for these alone edits of the plan are refused. */
+int edit_is_refused(const struct edit *edit)
+{
+    uint64_t lent = (uint64_t)FIRST * PAGE, size = PAGES * PAGE;
+    return (edit->permission == RWX && edit->slot != 0) ||
+           (edit->permission != NONE && edit->start < lent + size && lent < edit->start + edit->length);
+}
+
 /* The stores of the edit that the record names; none if it is refused. After a reset, whole or not, the domain is fenced. */
 static void expect_edit(int after_reset)
 {
     const struct firmware *kept = FIRMWARE;
     struct edit edit = {kept->slot, kept->start, kept->length, kept->permission};
-    uint64_t lent = (uint64_t)FIRST * PAGE, size = PAGES * PAGE;
-    int refused = edit.permission != NONE && edit.start < lent + size && lent < edit.start + edit.length;
-    uint64_t count = refused ? 0 : second_edit(&table, &edit, list);
+    uint64_t count = edit_is_refused(&edit) ? 0 : second_edit(&table, &edit, list);
     watched = (struct watched){list, count, 0, NEVER, GOVERNED, edit.slot};
     fence_due = after_reset ? MPT_FENCE_DOMAIN : fence_of(&edit, list, count);
 }

@@ -85,8 +85,8 @@ const struct plan plan[STEPS] = {
     {EDIT_RANGE, 0, 0, 0x40003000, 0x1000, MPT_RX}, /* one store, and a fence of one address */
     {OPEN_SLOT, 1, 0, 0, 0, MPT_NONE},
     {EDIT_RANGE, 1, 0, 0xc0200000, 0x200000, MPT_RW},
-    {EDIT_RANGE, 1, 0, 0xc0200000, 0x1000, MPT_RWX}, /* write and execute together: refused, but in slot 0 */
-    {EDIT_RANGE, 1, 0, 0x8000f000, 0x1000, MPT_RW}, /* a lent page: refused */
+    {EDIT_RANGE, 1, 0, 0xc0200000, 0x1000, MPT_RWX}, /* slot 0 alone may have it: refused */
+    {EDIT_RANGE, 1, 0, 0x8000f000, 0x1000, MPT_RW},  /* a lent page: refused */
     {CLOSE_SLOT, 1, 0, 0, 0, MPT_NONE},
     {OPEN_SLOT, 1, 0, 0, 0, MPT_NONE},                  /* the same SDID once more */
     {EDIT_RANGE, 0, 0, 0x40000000, 0x40000000, MPT_RW}, /* the L1 page is unlinked */

@@ -20,15 +20,16 @@ static void power_on(void)
     KEPT->power_on = 1;
 }
 
-/* A step of the plan by the second program, on the slots of its own. The edit of a lent page is refused, and that to rwx. */
+/* A step of the plan by the second program, on the slots of its own. */
 static void make_planned(const struct plan *step)
 {
+    struct edit edit = {step->slot, step->start, step->length, step->permission.value};
     if (step->what == CLOSE_SLOT)
         KEPT->slots[step->slot] = 0;
     else if (step->what == OPEN_SLOT)
         make(&(struct step){OPEN, {step->slot, 0, 0, 0}, step->sdid});
-    else if (step->permission.value != RWX && (step->start / PAGE < FIRST || step->start / PAGE >= FIRST + PAGES))
-        make(&(struct step){EDIT, {step->slot, step->start, step->length, step->permission.value}, 0});
+    else if (!edit_is_refused(&edit))
+        make(&(struct step){EDIT, edit, 0});
 }
 
 /* What a step finds, and how the domains read before it and after it. */

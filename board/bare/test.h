@@ -138,7 +138,8 @@ void watchdog(void);
 void say_watchdog(void);
 
 /* The firmware, one step of its plan after the other. duties.c: run_firmware resets the board when so many of its stores and fences are
- * made; it returns when a step is counted, and says how many there were. */
+ * made; it returns when a step is counted, and says how many there were. edit_is_refused: an edit of the plan. */
+int edit_is_refused(const struct edit *edit);
 uint64_t run_firmware(uint64_t reset_at);
 void firmware_cuts(uint64_t from);
 void firmware_watchdog(void);

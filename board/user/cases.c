@@ -255,7 +255,7 @@ uint64_t bench_cases(void)
     cases_f_to_h();
     cases_i_to_k();
     case_v();
-    case_w();
     other_calls();
+    case_w();
     return wrong;
 }

@@ -102,7 +102,7 @@ abbrev standsIn : ℕ → List ℕ → ℕ → Outcome
 standsIn s m r = record { reply = opened; memory = m; slots = set (replicate 8 emptySlot) s r; fence = noFence }
 
 abbrev stands : List ℕ → ℕ → Outcome
-stands = standsIn 0
+stands m r = standsIn 0 m r
 
 -- "slot 0 opened with SDID 5"
 unfoldable pub new : Outcome

@@ -42,6 +42,8 @@ pub struct Edit {
     pub start: Address,
     /// In bytes.
     pub length: u64,
+    /// [`Rwx`](Permission::Rwx) is for slot 0 alone: in slots 1 to 7 it is refused
+    /// ([`NoWriteExecute`](crate::Refusal::NoWriteExecute)).
     pub permission: Permission,
     /// The most stores to make; [`MOST_STORES`](crate::MOST_STORES) is always enough, and in a loop that goes on while
     /// the edit is cut [`LEAST_LIMIT`](crate::LEAST_LIMIT).

@@ -1,4 +1,4 @@
-//! Bench cases of document 01, and of item 3 of document 02, by the codes of the C interface, and the edges of the codes.
+//! Bench cases of document 01, and of items 3 and 6 of document 02, by the codes of the C interface, and the edges of the codes.
 
 use plain::{Asked, Edited, Fence, Frame, Looked};
 
@@ -6,6 +6,7 @@ const FRAME: Frame = Frame { paw: 32, first: 0x80000 };
 const NONE: u64 = 0;
 const RX: u64 = 1;
 const RW: u64 = 2;
+const RWX: u64 = 3;
 const FETCH: u64 = 0;
 const LOAD: u64 = 1;
 const STORE: u64 = 2;
@@ -94,6 +95,31 @@ fn case_v() {
     assert_eq!(look(&state, LOAD, 0x4001_0000), Looked::Allowed);
     assert_eq!(look(&state, LOAD, 0x4002_F000), Looked::Fault(5));
     assert_eq!(look(&state, STORE, 0x4003_F000), Looked::Fault(7));
+}
+
+/// No rwx but in slot 0; the slots are those of one domain, here and there.
+#[test]
+fn case_w() {
+    let mut state = opened(16);
+    let mut ask = |slot: usize, start, length, permission| {
+        let mut slots = [0; 8];
+        slots[slot] = state.1[0];
+        let asked = Asked { slot: slot as u64, start, length, permission, limit: 1536 };
+        plain::edit(FRAME, &mut state.0, &slots, asked).map(|edited| edited.stores)
+    };
+    for slot in 1..8 {
+        assert_eq!(ask(slot, 0x4000_0000, 0x1000, RWX), Err(10), "{slot}");
+        assert_eq!(ask(slot, 0x8000_F000, 0x1000, RWX), Err(10), "{slot}: 10 before 6");
+        assert_eq!(ask(slot, 0x8000_F000, 0x0800, RWX), Err(5), "{slot}: 5 before 10");
+    }
+    assert_eq!(ask(1, 0x4000_0000, 0x1000, NONE), Ok(0));
+    assert_eq!(ask(1, 0x4000_0000, 0x1000, RX), Ok(544));
+    assert_eq!(ask(1, 0x4000_0000, 0x1000, RW), Ok(1));
+    assert_eq!(ask(0, 0x8000_F000, 0x1000, RWX), Err(6));
+    assert_eq!(ask(0, 0x4000_0000, 0x1000, RWX), Ok(1));
+    assert_eq!(ask(1, 0x4000_0000, 0x1000, RWX), Err(10), "it is rwx already");
+    assert_eq!(ask(1, 0x4000_1000, 0x1000, RW), Ok(1));
+    assert_eq!(state.0[512], 0x23);
 }
 
 #[test]

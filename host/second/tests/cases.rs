@@ -1,4 +1,4 @@
-//! The bench cases of document 01, and of item 3 of document 02, asked of the second program. Every number of a case is the
+//! The bench cases of document 01, and of items 3 and 6 of document 02, asked of the second program. Every number of a case is the
 //! paper's, or follows from its text by hand.
 
 use second::*;
@@ -216,6 +216,49 @@ fn refusals_keep_the_order_of_the_paper() {
     assert_eq!(close(frame, &words[..1023], &mut slots, 2), Err(1));
     words[0] = 0;
     assert_eq!(close(frame, &words, &mut slots, 0), Ok(Fence::Domain(0)));
+}
+
+/// "An edit asking for rwx in slots 1 to 7 is refused with 10, tested after 5 and before 6. Slot 0 keeps it."
+#[test]
+fn case_w_no_write_and_execute_together() {
+    let Bench { frame, mut words, mut slots } = bench();
+    for slot in 1..8 {
+        open(frame, &mut words, &mut slots, slot, 5 + slot).unwrap();
+    }
+    let mut ask = |slot, start, length, permission| {
+        edit(frame, &mut words, &slots, Asked { slot, start, length, permission }, 1536).map(|edited| edited.stores)
+    };
+    for slot in 1..8 {
+        assert_eq!(ask(slot, 0x4000_0000, 0x1000, 3), Err(10), "{slot}");
+        assert_eq!(ask(slot, 0x8000_F000, 0x1000, 3), Err(10), "{slot}: 10 before 6");
+        assert_eq!(ask(slot, 0x8000_F000, 0x0800, 3), Err(5), "{slot}: 5 before 10");
+        assert_eq!(ask(slot, 0x8000_F000, 0x1000, 2), Err(6), "{slot}");
+        assert_eq!(ask(slot, 0x4000_0000, 0x1000, NONE), Ok(0), "{slot}");
+    }
+    assert_eq!(ask(8, 0x4000_0000, 0x1000, 3), Err(4));
+    assert_eq!(ask(0, 0x8000_F000, 0x1000, 3), Err(6));
+    assert_eq!(ask(0, 0x4000_0000, 0x1000, 3), Ok(544));
+    assert_eq!(ask(7, 0x4000_0000, 0x1000, RX), Ok(544));
+    assert_eq!(ask(7, 0x4000_0000, 0x1000, RW), Ok(1));
+}
+
+/// "Pages already rwx stay so until edited."
+#[test]
+fn case_w_pages_that_are_rwx_already() {
+    let Bench { frame, mut words, slots } = bench();
+    let here = slots[0];
+    let slots = [0, 0, 0, here, 0, 0, 0, 0];
+    words[96] = 0x0000_3000_0000_0000;
+    let ask = |words: &mut [u64], length, permission| {
+        edit(frame, words, &slots, Asked { slot: 3, start: 0xC000_0000, length, permission }, 1536)
+            .map(|edited| edited.stores)
+    };
+    assert_eq!(ask(&mut words, 0x1000, 3), Err(10));
+    assert_eq!(ask(&mut words, 0x1000, RX), Ok(544));
+    assert_eq!(words[96], 0x0000_4000_0008_0001);
+    assert_eq!((words[512], words[513]), (0x3333_3333_3333_3331, 0x3333_3333_3333_3333));
+    assert_eq!(ask(&mut words, 0x2000, 3), Err(10), "as of an edit that began before the rule");
+    assert_eq!(ask(&mut words, 0x4000_0000, RW), Ok(32));
 }
 
 #[test]
