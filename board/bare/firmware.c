@@ -72,7 +72,7 @@ static int start_up(struct firmware *kept, uint64_t *words, uint64_t power_on)
         return 0;
     if (kept->under_way) {
         mpt_edited answer = make_recorded(kept, words);
-        (void)answer; /* if it is refused, this library refused it before the reset too, and nothing has changed */
+        (void)answer; /* if it is refused, and the same library began it, it was refused before the reset too, and nothing has changed */
     }
     fence_all(); /* also for what was made before the reset, and not fenced */
     put_word(&kept->under_way, 0);

@@ -138,7 +138,7 @@ void watchdog(void);
 void say_watchdog(void);
 
 /* The firmware, one step of its plan after the other. duties.c: run_firmware resets the board when so many of its stores and fences are
- * made; it returns when a step is counted, and says how many there were. edit_is_refused: an edit of the plan. */
+ * made; it returns when a step is counted, and says how many there were. edit_is_refused: whether an edit of the plan is refused. */
 int edit_is_refused(const struct edit *edit);
 uint64_t run_firmware(uint64_t reset_at);
 void firmware_cuts(uint64_t from);

@@ -26,10 +26,10 @@ int main(int count, char **word)
     words = mmap(TABLE, COUNT * 8, PROT_READ | PROT_WRITE, MAP_PRIVATE | MAP_ANONYMOUS | MAP_FIXED, -1, 0);
     if (words != TABLE || name == 0)
         return 2;
-    paw = name == 'W' ? 34 : 32;
+    paw = name == 'w' ? 34 : 32;
     if (!mpt_write_opened(slots, SLOT, mpt_open(paw, FIRST, words, COUNT, slots, SLOT, mpt_to_sdid(5))))
         return 1;
-    if (name == 'W') {
+    if (name == 'w') { /* wide: 16 GiB */
         edit(0x000000000, 0x080000000, MPT_RW);
         edit(0x0C0000000, 0x340000000, MPT_RW);
         edit(0x000000000, 0x400000000, MPT_NONE);

@@ -3,7 +3,7 @@ function store(page, entry) { printf "%x,8\n", 1610612736 + page * 4096 + entry 
 function entries(page, from, to,   k) { for (k = from; k < to; k++) store(page, k) }
 BEGIN {
     entries(0, 0, 512)                  # opening zeroes the lowest free page
-    if (name == "W") {
+    if (name == "wide") {
         entries(0, 0, 64)               # 0 to 2 GiB: two GiBs of 32 entries
         entries(0, 96, 512)             # 3 to 16 GiB
         entries(0, 0, 64)               # all 16 GiB: each entry that changes, upward; GiB 2 reads none already

@@ -132,7 +132,7 @@ static void case_v(void)
     looked("V: load of page 0 without it", look(MPT_LOAD, 0x40000000), 1, 0, 0);
 }
 
-/* No rwx in slots 1 to 7: the domain of slot 0, once in slot 1. The page that slot 0 made rwx stays so beside an edit. */
+/* No rwx in slots 1 to 7: the domain of slot 0, here in slot 0, 1 or 7. The page that slot 0 made rwx stays so beside an edit. */
 static void case_w(void)
 {
     static const uint64_t lent = 0x8000F000;

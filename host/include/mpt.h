@@ -92,7 +92,7 @@ enum {
     MPT_LEAST_LIMIT = 513   /* a new page and its link: with less, an edit may be cut there for ever */
 };
 
-/* Answers. Lowest number first where several fit, except that 8 comes before 7, and 10 before 6. */
+/* Answers. Where several refusals fit, it is the first in the order in which the call's comment names them. */
 enum {
     MPT_FINE = 0,         /* lookup: allowed; check: sound */
     MPT_BAD_FRAME = 1,    /* PAW, page count or first page out of bounds, or not whole pages */
@@ -227,7 +227,7 @@ MPT_MUST_USE mpt_closed mpt_close(uint64_t paw, mpt_page first, const uint64_t *
  *
  * Answers 256, and in the bits above: how many stores were made (mpt_stores), whether those were all
  * (mpt_all) or the limit cut it (mpt_cut), and the fence (mpt_fence, mpt_fence_sdid; an address fence is
- * for the address start); 1, 3, 4, 5, 10, 6 or 7 refused, in this order; 255.
+ * for the address start); 1, 3, 4, 5, 10, 6 or 7 refused; 255.
  */
 MPT_MUST_USE mpt_edited mpt_edit(uint64_t paw, mpt_page first, uint64_t *words, size_t count,
                                  const uint64_t slots[8], mpt_slot slot, mpt_address start, uint64_t length,

@@ -11,7 +11,7 @@ use Rattle.model.specs.Calls.{refusedWith, closed, edited, rootOf, finished, st
 use Rattle.laws.proofs.PageRuns.{quickForms, forms-quick}
 use Rattle.cases.specs.Bench.{bench, smallBench, badBench, none, rx, readWrite, rwx, ask, askOf, most, opens, closes, closesOn, look, lookBy, l1, eightBytes, freePagesOf, wordsStored, topDigit, wpriSet, pastTheBlocks, reservedBits, twoRoots, fromBefore}
 use Rattle.cases.proofs.Sounds.{quickSound, sound-quick}
-use Rattle.cases.proofs.QuickCalls.{held-is-8, full-is-7}
+use Rattle.cases.proofs.QuickCalls.{held-is-8, full-is-7, sound-closes}
 use Rattle.cases.proofs.Compute.{compute, pos, quick}
 use Rattle.cases.proofs.States.{slots5, memoryNew, outcomeNew, memoryC, outcomeC, memoryG, outcomeG, outcome512, outcome513, outcomeK1, outcomeK2, outcomeL, outcomeN, outcomeO, outcomeW}
 
@@ -271,29 +271,21 @@ pub W-store : lookBy bench 0x1140000000080000 fromBefore 0xC2000000 (itself stor
 unfolding compute fromBefore
 W-store = refl
 
+W-sound : quickSound bench (fromBefore .memory) (fromBefore .slots) ≡ true
+unfolding compute fromBefore
+W-sound = refl
+
 pub W-close : closes fromBefore 1 .reply ≡ closed
 unfolding compute fromBefore
-W-close = refl
+W-close = sound-closes bench (fromBefore .memory) (fromBefore .slots) 1 refl (sound-quick bench (fromBefore .memory) (fromBefore .slots) ∙ W-sound) refl
 
 pub W-began : quick 32 0x80000 16 fromBefore (askOf 1 0x40000000 0x1000 rwx) most .reply ≡ refusedWith 10
 unfolding compute fromBefore
 W-began = refl
 
-pub W-already : quick 32 0x80000 16 fromBefore (askOf 1 0xC0000000 0x1000 rwx) most .reply ≡ refusedWith 10
-unfolding compute fromBefore
-W-already = refl
-
-pub W-beside : quick 32 0x80000 16 fromBefore (askOf 1 0x40001000 0x1000 readWrite) most .reply ≡ edited 32 true
-unfolding compute fromBefore
-W-beside = refl
-
 pub W-stays : l1 (quick 32 0x80000 16 fromBefore (askOf 1 0x40001000 0x1000 readWrite) most) 0 ≡ 0x23
 unfolding compute fromBefore
 W-stays = refl
-
-pub W-over : quick 32 0x80000 16 fromBefore (askOf 1 0xC0000000 0x1000 rx) most .reply ≡ edited 543 true
-unfolding compute fromBefore
-W-over = refl
 
 pub W-rest : take 2 (drop 1024 (quick 32 0x80000 16 fromBefore (askOf 1 0xC0000000 0x1000 rx) most .memory)) ≡ 0x3333333333333331 ∷ 0x3333333333333333 ∷ []
 unfolding compute fromBefore

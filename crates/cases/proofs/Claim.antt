@@ -8,7 +8,7 @@ use Rattle.cases.specs.Bench.{bench, smallBench, badBench, none, rx, rea
 use Rattle.cases.specs.Cases.{AllOf, done, both, markedCases, otherCases}
 use Rattle.cases.proofs.Compute.{compute, runs}
 use Rattle.cases.proofs.States.{slots5, memoryNew, outcomeNew, new-is, memoryC, outcomeC, C-is, outcomeF, F-is, memoryG, outcomeG, G-is, outcomeH, H-is, outcome512, D512-is, outcome513, D513-is, outcomeK1, K1-is, outcomeK2, K2-is, outcomeL, L-is, outcomeM, M-is, outcomeM2, M2-is, outcomeN, N-is, outcomeO, O-is, outcomeT, T-is, outcomeW, W-is}
-use Rattle.cases.proofs.Answers.{gib, A-load, D-load512, D-load513, D-beside, E-store, E-fetch, E-table, I-load, L-load, L-swapped, P-load, R-load, U-look-frame, U-look-register, V-load, V-own-none, V-beside, V-own, V-lowest, V-close, D-again, I-edit, I-past, J-lent, J-beside, J-none, K-full, K-freed, N-held, N-close, N-first, N-full, P-close, R-close, S-close, U-frame, U-unsound, U-slot, U-range, U-lent, U-open-frame, U-open-unsound, U-open-slot, U-open-sdid, U-close-frame, U-close-unsound, U-close-slot, G-stored, G-free, O-free, S-free, Q-bytes, W-one, W-zero, W-seven, W-empty, W-range, W-lent, W-lent-zero, W-none, W-rx, W-rw, W-full, W-full-rw, W-fetch, W-store, W-close, W-began, W-already, W-beside, W-stays, W-over, W-rest}
+use Rattle.cases.proofs.Answers.{gib, A-load, D-load512, D-load513, D-beside, E-store, E-fetch, E-table, I-load, L-load, L-swapped, P-load, R-load, U-look-frame, U-look-register, V-load, V-own-none, V-beside, V-own, V-lowest, V-close, D-again, I-edit, I-past, J-lent, J-beside, J-none, K-full, K-freed, N-held, N-close, N-first, N-full, P-close, R-close, S-close, U-frame, U-unsound, U-slot, U-range, U-lent, U-open-frame, U-open-unsound, U-open-slot, U-open-sdid, U-close-frame, U-close-unsound, U-close-slot, G-stored, G-free, O-free, S-free, Q-bytes, W-one, W-zero, W-seven, W-empty, W-range, W-lent, W-lent-zero, W-none, W-rx, W-rw, W-full, W-full-rw, W-fetch, W-store, W-close, W-began, W-stays, W-rest}
 
 abbrev replyOf : Outcome → Reply
 replyOf o = o .reply
@@ -121,9 +121,6 @@ others =
     (both W-store
     (both W-close
     (both (runs 32 0x80000 16 replyOf {o = fromBefore} (askOf 1 0x40000000 0x1000 rwx) most refl W-began)
-    (both (runs 32 0x80000 16 replyOf {o = fromBefore} (askOf 1 0xC0000000 0x1000 rwx) most refl W-already)
-    (both (runs 32 0x80000 16 replyOf {o = fromBefore} (askOf 1 0x40001000 0x1000 readWrite) most refl W-beside)
     (both (runs 32 0x80000 16 (λ (o : Outcome). l1 o 0) {o = fromBefore} (askOf 1 0x40001000 0x1000 readWrite) most refl W-stays)
-    (both (runs 32 0x80000 16 replyOf {o = fromBefore} (askOf 1 0xC0000000 0x1000 rx) most refl W-over)
     (both (runs 32 0x80000 16 (λ (o : Outcome). take 2 (drop 1024 (o .memory))) {o = fromBefore} (askOf 1 0xC0000000 0x1000 rx) most refl W-rest)
-    done)))))))))))))))))))))))))))))))))))))))))))))))))))))))))))))))))))))))))))))
+    done))))))))))))))))))))))))))))))))))))))))))))))))))))))))))))))))))))))))))

@@ -1,5 +1,5 @@
 -- An edit with its finished forms, its stores, its memory and the test for a sound table each computed quickly: the same.
--- Open likewise; and two of its refusals, from a table that is known to be sound.
+-- Open likewise; and two of its refusals, and a close, from a table that is known to be sound.
 use mathlib.Core.Path.{_≡_, refl, ap, ap₂, _∙_}
 use mathlib.Core.Bool.{Bool, true, false, not, _&&_, _||_}
 use mathlib.Core.List.{List, [], _∷_, headD}
@@ -13,7 +13,7 @@ use Rattle.model.specs.Sound.{Slot, isOpen, roots, sdids, sound, freePages}
 use Rattle.model.specs.Forms.{Request, Form, firstGib}
 use Rattle.model.specs.Stores.{Store, newPages}
 use Rattle.model.specs.Fence.{noFence}
-use Rattle.model.specs.Calls.{Outcome, refusedWith, opened, firstMet, slotAt, badRange, writeExecute, meetsLent, rootOf, refuse, openRefusal, openAt, openSlot, editRefusalWith, storeListWith, made, editWith, editSlot}
+use Rattle.model.specs.Calls.{Outcome, refusedWith, opened, closed, firstMet, slotAt, badRange, writeExecute, meetsLent, rootOf, refuse, openRefusal, openAt, openSlot, closeRefusal, closeSlot, editRefusalWith, storeListWith, made, editWith, editSlot}
 use Rattle.laws.proofs.PageRuns.{quickForms, edit-quick}
 use Rattle.cases.proofs.QuickPasses.{passes, apply-passes, pasted, sets-pasted}
 use Rattle.cases.proofs.QuickStores.{quickStores, stores-quick}
@@ -117,3 +117,10 @@ module _ (F : Frame) (m : List ℕ) (slots : List Slot) (s sdid : ℕ) where
     pub full-is-7 : (ltb maxSdid sdid || member sdid (sdids F slots)) ≡ false → eqb (length (freePages F m (roots F slots))) 0 ≡ true → openSlot F m slots s sdid .reply ≡ refusedWith 7
     unfolding openSlot openRefusal firstMet refuse
     full-is-7 free full = rw (ok, sounds, empty, free, full) refl
+
+-- ---- close
+
+module _ (F : Frame) (m : List ℕ) (slots : List Slot) (s : ℕ) where
+  pub sound-closes : frameOk F m ≡ true → sound F m slots ≡ true → (not (ltb s slotCount) || not (isOpen (slotAt slots s))) ≡ false → closeSlot F m slots s .reply ≡ closed
+  unfolding closeSlot closeRefusal firstMet
+  sound-closes ok sounds held = rw (ok, sounds, held) refl

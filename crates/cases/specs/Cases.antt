@@ -225,14 +225,8 @@ otherCases =
     ∷ (closes fromBefore 1 .reply ≡ closed)
     -- W. an edit that began before: slot 1, rwx, 0x40000000, one page, cut after 513 stores, again
     ∷ (edits bench fromBefore (askOf 1 0x40000000 0x1000 rwx) most .reply ≡ refusedWith 10)
-    -- W. edit: slot 1, rwx, 0xC0000000, one page, which is rwx already
-    ∷ (edits bench fromBefore (askOf 1 0xC0000000 0x1000 rwx) most .reply ≡ refusedWith 10)
-    -- W. edit: slot 1, rw, 0x40001000, the page after one that is rwx
-    ∷ (edits bench fromBefore (askOf 1 0x40001000 0x1000 readWrite) most .reply ≡ edited 32 true)
-    -- W. L1 entry 0
+    -- W. edit: slot 1, rw, 0x40001000, the page after one that is rwx: L1 entry 0
     ∷ (l1 (edits bench fromBefore (askOf 1 0x40001000 0x1000 readWrite) most) 0 ≡ 0x23)
-    -- W. edit: slot 1, rx, 0xC0000000, one page, which was rwx
-    ∷ (edits bench fromBefore (askOf 1 0xC0000000 0x1000 rx) most .reply ≡ edited 543 true)
-    -- W. L1 entries 0 and 1 of the new page, the other pages of whose block stay rwx
+    -- W. edit: slot 1, rx, 0xC0000000, one page, which was rwx: L1 entries 0 and 1 of the new page, whose other pages stay rwx
     ∷ (take 2 (drop 1024 (edits bench fromBefore (askOf 1 0xC0000000 0x1000 rx) most .memory)) ≡ 0x3333333333333331 ∷ 0x3333333333333333 ∷ [])
     ∷ []

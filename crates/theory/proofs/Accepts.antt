@@ -49,7 +49,7 @@ module _ (F : Frame) (slots : List Slot) (q : Request) where
     pub goodTable : soundTable F m rs ≡ true
     pub slot : (not (ltb (q .slot) 8) || not (isOpen (slotAt slots (q .slot)))) ≡ false
     pub range : badRange F q ≡ false
-    pub allowed : writeExecute q ≡ false
+    pub noWriteExecute : writeExecute q ≡ false
     pub apart : (not (eqb (q .permission) 0) && meetsLent F q) ≡ false
     pub room : newPages F m ro b0 (forms F m q ro) ≤ length (freePages F m rs)
 
@@ -70,7 +70,7 @@ module _ (F : Frame) (slots : List Slot) (q : Request) where
         goodTable = s .1;
         slot = c .0;
         range = d .0;
-        allowed = w .0;
+        noWriteExecute = w .0;
         apart = e .0;
         room = ltb-false _ _ (f .0);
       }
@@ -82,7 +82,7 @@ module _ (F : Frame) (slots : List Slot) (q : Request) where
       (none-first 3 _ _ (ap not (and-both (k .goodSlots) (k .goodTable)))
       (none-first 4 _ _ (k .slot)
       (none-first 5 _ _ (k .range)
-      (none-first 10 _ _ (k .allowed)
+      (none-first 10 _ _ (k .noWriteExecute)
       (none-first 6 _ _ (k .apart)
       (none-first 7 _ _ (le-ltb _ _ (k .room)) first-empty))))))
 

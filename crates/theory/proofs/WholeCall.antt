@@ -128,7 +128,7 @@ module _ (E : EditCall) (m : List ℕ) (k : Accept (E .F) (E .slots) (E .q) m) w
           goodTable = from-sound F RS m′ (t .sound);
           slot = k .slot;
           range = k .range;
-          allowed = k .allowed;
+          noWriteExecute = k .noWriteExecute;
           apart = k .apart;
           room =
               omega (

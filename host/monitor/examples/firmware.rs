@@ -40,7 +40,8 @@ impl Record {
     }
 
     /// Makes the edit that stands here, then its fence. Only a reset leaves the record standing: an edit that is
-    /// refused has made no store, and would be refused again at every start.
+    /// refused has made no store, and would be refused again at every start. (Another library may refuse what this one
+    /// began: `docs/BOARD.md`, what the caller owes.)
     fn make(&mut self, table: &mut Lent, watchdog: &mut Watchdog, fence: impl Fn(&Lent, Edited)) -> Result<(), Stop> {
         let made = watchdog.edit(table, self.edit).map(|edited| fence(table, edited));
         if !matches!(made, Err(Stop::Reset)) {

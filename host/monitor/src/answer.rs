@@ -181,7 +181,7 @@ impl fmt::Display for Refusal {
             Refusal::MeetsLent => "the range meets the lent pages",
             Refusal::NoFreePage => "too few pages are free",
             Refusal::BadSdid => "the SDID is above 63 or held by another open slot",
-            Refusal::NoWriteExecute => "rwx is for slot 0 alone: ask for rx or rw in slots 1 to 7",
+            Refusal::NoWriteExecute => "rwx is asked for in one of the slots 1 to 7",
         })
     }
 }

@@ -1,5 +1,5 @@
-//! `mpt cases`: the bench cases of document 01 and the one that item 3 of document 02 adds, with the papers' own answers, and a
-//! few of ours beside the latter.
+//! `mpt cases`: the bench cases of document 01 and the one that item 3 of document 02 adds, with the papers' own answers, and
+//! ours for items 3 and 6.
 
 use crate::answer::{Free, Outcome, Reply};
 use crate::command::parse;

@@ -96,6 +96,9 @@ fn the_examples() {
     let output = mpt(&["map", "--both", &slips]);
     let picture = text(&output.stdout);
     assert_eq!(output.status.code(), Some(3));
+    assert!(
+        picture.contains("refused 6: ") && picture.contains("refused 10: ") && picture.contains("cut after 515 stores")
+    );
     let (written, read) = (picture.find("one of them may write").unwrap(), picture.find("none may write").unwrap());
     assert!(picture[written..read].contains("0x04ffff000 to 0x04fffffff        4 KiB  rw: slots 0 1\n"), "{picture}");
     assert!(

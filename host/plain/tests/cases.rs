@@ -97,7 +97,7 @@ fn case_v() {
     assert_eq!(look(&state, STORE, 0x4003_F000), Looked::Fault(7));
 }
 
-/// No rwx but in slot 0; the slots are those of one domain, here and there.
+/// No rwx but in slot 0: one domain, which stands in the slot that is asked and in no other.
 #[test]
 fn case_w() {
     let mut state = opened(16);

@@ -1,4 +1,4 @@
--- `monitor::edit` meets its contract: the refusals of frame, table and slot in their order, and then those of the range and the stores.
+-- `monitor::edit` meets its contract: the refusals of frame, table and slot in their order, and then what `edit_open` leaves.
 use mathlib.Core.Path.{sym, ap, _∙_}
 use mathlib.Core.List.{List}
 use Prim.Native.Nat.{ℕ}

@@ -8,7 +8,7 @@ use super::reserved::Reserved;
 use super::rules::Rule;
 use super::segments::Segment;
 use super::sweep::Target;
-use super::together::Together;
+use super::write_execute::WriteExecute;
 use mpt_monitor::{Answer, Call, Edited, Fence, Reading, Verdict, Writing};
 
 #[derive(Clone, Copy, Debug, PartialEq, Eq, PartialOrd, Ord)]
@@ -32,7 +32,7 @@ pub enum Class {
     /// Reserved bits of an L1 entry are set, and an access by it or beside it.
     Reserved(Reserved),
     /// Write and execute together: asked for, or there from before.
-    Together(Together),
+    WriteExecute(WriteExecute),
     /// A table that is not sound by this rule alone.
     Unsound(Rule),
     /// A sound table: its PAW, its open slots, its pages in use and free, each by a range of numbers.
@@ -123,7 +123,7 @@ impl Class {
         all.extend(Target::ALL.into_iter().flat_map(|target| (0..64).map(move |bit| Class::Bit(target, bit))));
         all.extend((0..GIB_BLOCKS).map(Class::AmongFlat));
         all.extend(Reserved::all().map(Class::Reserved));
-        all.extend(Together::all().map(Class::Together));
+        all.extend(WriteExecute::all().map(Class::WriteExecute));
         all.extend(Change::all().map(Class::Block));
         all.extend(Segment::all().map(Class::Cut));
         all
@@ -135,7 +135,7 @@ impl Class {
         let (table, (row, column)) = match self {
             Class::Answer(asked, given) => return given.place(asked),
             Class::Reserved(met) => return met.place(),
-            Class::Together(met) => return met.place(),
+            Class::WriteExecute(met) => return met.place(),
             Class::Outside(what) => ("answers", own("outside its kind", what.to_string())),
             Class::Frame(bound) => ("frames", bound.place()),
             Class::Paw(paw) => ("sound tables", own("PAW", paw.to_string())),

@@ -4,7 +4,7 @@ use super::bounds::{AddressBound, FrameBound, RangeBound};
 use super::class::{Asked, Class};
 use super::layout::within_bounds;
 use super::rules::broken_alone;
-use super::together::Together;
+use super::write_execute::WriteExecute;
 use crate::answer::Reply;
 use crate::command::Command;
 use mpt_monitor::{Answer, Privilege, Table};
@@ -28,20 +28,23 @@ pub fn classes(table: &Table, command: &Command, reply: &Reply) -> Vec<Class> {
 /// Beside the answer itself: bounds that were reached, rules that are broken, where a new page lies.
 fn further(table: &Table, command: &Command, answer: Answer) -> Vec<Class> {
     let (frame, count) = (table.frame(), table.words().len());
-    let range = |edit| RangeBound::of(frame, count, edit).into_iter().map(Class::Range);
-    let together = |edit| Together::of(table, edit, answer).into_iter().map(Class::Together);
     match (command, answer) {
         (Command::Lookup { privilege, register, address, .. }, Answer::Looked(_))
             if *privilege != Privilege::Machine && register.mode() == 1 =>
         {
             AddressBound::of(frame, count, address.0).into_iter().map(Class::Address).collect()
         }
-        (Command::Edit(edit), Answer::Edited(_)) => range(*edit).chain(together(*edit)).collect(),
-        // what is refused for its range or for room had all else right
-        (Command::Edit(edit), Answer::Refused(refusal)) if (5..=7).contains(&refusal.number()) => {
-            range(*edit).chain(together(*edit)).collect()
+        (Command::Edit(edit), _) => {
+            // what is refused for its range or for room had all else right
+            let told_by_range = match answer {
+                Answer::Edited(_) => true,
+                Answer::Refused(refusal) => (5..=7).contains(&refusal.number()),
+                _ => false,
+            };
+            let ranges = if told_by_range { RangeBound::of(frame, count, *edit) } else { Vec::new() };
+            let write_execute = WriteExecute::of(table, *edit, answer).into_iter().map(Class::WriteExecute);
+            ranges.into_iter().map(Class::Range).chain(write_execute).collect()
         }
-        (Command::Edit(edit), Answer::Refused(_)) => together(*edit).collect(),
         (Command::Sound, Answer::Refused(_)) if within_bounds(table) => {
             broken_alone(table).into_iter().map(Class::Unsound).collect()
         }

@@ -22,9 +22,9 @@ mod sequence;
 mod start;
 mod sweep;
 mod tally;
-mod together;
 mod trial;
 mod workers;
+mod write_execute;
 
 use crate::options::Options;
 use crate::output;

@@ -6,11 +6,11 @@ use Rattle.range.proofs.bounds.write_execute.Tie as tie
 
 returns : tie.Need-returns
 unfolding writeExecute
-returns c = rw (ne-eqb _ _ (c .if1 .taken))
+returns c = rw (ne-eqb _ 3 (c .if1 .taken))
 
 returns-2 : tie.Need-returns-2
 unfolding writeExecute
-returns-2 c = rw (eq-eqb _ _ (c .before .if1 .left))
+returns-2 c = rw (eq-eqb _ 3 (c .before .if1 .left))
 
 pub write-execute-spec : {M : Type 1} → statement M
 write-execute-spec = tie.close (tie.spec returns returns-2)

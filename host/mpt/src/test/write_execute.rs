@@ -7,7 +7,7 @@ use mpt_monitor::{Answer, Edit, Permission, Refusal, Register, Slot, Table, PAGE
 
 /// An edit that asks for rwx and how it is answered; or an edit of slots 1 to 7 beside pages that are rwx from before.
 #[derive(Clone, Copy, Debug, PartialEq, Eq, PartialOrd, Ord)]
-pub enum Together {
+pub enum WriteExecute {
     /// Edited in slot 0, refused with 10 in the others.
     Asked(u64),
     /// Refused with 10, where the first and the last page of the range are rwx already, or not.
@@ -27,21 +27,21 @@ const ENDS: [(bool, bool, &str); 4] = [
     (true, true, "both ends"),
 ];
 
-impl Together {
-    pub fn all() -> impl Iterator<Item = Together> {
-        let asked = (0..8).map(Together::Asked);
-        let already = ENDS.into_iter().map(|(first, last, _)| Together::Already { first, last });
-        let others = [Together::OverLent, Together::BadRange, Together::Stays(6), Together::Stays(4)];
+impl WriteExecute {
+    pub fn all() -> impl Iterator<Item = WriteExecute> {
+        let asked = (0..8).map(WriteExecute::Asked);
+        let already = ENDS.into_iter().map(|(first, last, _)| WriteExecute::Already { first, last });
+        let others = [WriteExecute::OverLent, WriteExecute::BadRange, WriteExecute::Stays(6), WriteExecute::Stays(4)];
         asked.chain(already).chain(others)
     }
 
     /// What an edit and its answer are; the table is as it stands after it.
-    pub fn of(table: &Table, edit: Edit, answer: Answer) -> Vec<Together> {
+    pub fn of(table: &Table, edit: Edit, answer: Answer) -> Vec<WriteExecute> {
         let of_slot_0 = edit.slot == Slot(0);
         match (answer, edit.permission) {
-            (Answer::Edited(_), Permission::Rwx) if of_slot_0 => vec![Together::Asked(0)],
+            (Answer::Edited(_), Permission::Rwx) if of_slot_0 => vec![WriteExecute::Asked(0)],
             (Answer::Edited(edited), _) if !of_slot_0 && edited.all => stays(table, edit),
-            (Answer::Refused(Refusal::BadRange), Permission::Rwx) if !of_slot_0 => vec![Together::BadRange],
+            (Answer::Refused(Refusal::BadRange), Permission::Rwx) if !of_slot_0 => vec![WriteExecute::BadRange],
             (Answer::Refused(Refusal::NoWriteExecute), _) => refused(table, edit),
             _ => Vec::new(),
         }
@@ -49,37 +49,41 @@ impl Together {
 
     /// The table of the summary, the row and the column.
     pub fn place(self) -> (&'static str, String, String) {
-        let others = |row: &str| ("write and execute together, beside this", row.to_string(), String::new());
+        let others = |row: &str| ("write and execute together, and what else is so", row.to_string(), String::new());
         match self {
-            Together::Asked(slot) => {
+            WriteExecute::Asked(slot) => {
                 ("rwx asked for: edited in slot 0, else refused with 10", String::new(), format!("slot {slot}"))
             }
-            Together::Already { first, last } => {
+            WriteExecute::Already { first, last } => {
                 let end = ENDS.iter().find(|end| (end.0, end.1) == (first, last)).expect("all four are there");
-                ("rwx refused with 10, by what is rwx already", String::new(), end.2.to_string())
+                ("rwx refused with 10: which end of the range is rwx already", String::new(), end.2.to_string())
             }
-            Together::OverLent => others("rwx over the lent pages refused with 10"),
-            Together::BadRange => others("rwx over a bad range refused with 5, in slots 1 to 7"),
-            Together::Stays(kind) => others(&format!("rwx from before beside an edit, in slots 1 to 7, TYPE {kind}")),
+            WriteExecute::OverLent => others("rwx over the lent pages refused with 10"),
+            WriteExecute::BadRange => others("rwx over a bad range refused with 5, in slots 1 to 7"),
+            WriteExecute::Stays(kind) => {
+                others(&format!("rwx from before beside an edit, in slots 1 to 7, TYPE {kind}"))
+            }
         }
     }
 }
 
-fn refused(table: &Table, edit: Edit) -> Vec<Together> {
+fn refused(table: &Table, edit: Edit) -> Vec<WriteExecute> {
     let (start, end) = (edit.start.0, edit.start.0 + edit.length);
     let root = Register(table.slots()[edit.slot.0 as usize]).root().0;
     let is_rwx = |address| second::permission_at(frame(table), table.words(), root, address) == Some(3);
     let lent = table.frame().first.0..table.frame().first.0 + (table.words().len() / PAGE_WORDS) as u64;
-    let mut all =
-        vec![Together::Asked(edit.slot.0), Together::Already { first: is_rwx(start), last: is_rwx(end - 4096) }];
+    let mut all = vec![
+        WriteExecute::Asked(edit.slot.0),
+        WriteExecute::Already { first: is_rwx(start), last: is_rwx(end - 4096) },
+    ];
     if start >> 12 < lent.end && lent.start < end >> 12 {
-        all.push(Together::OverLent);
+        all.push(WriteExecute::OverLent);
     }
     all
 }
 
 /// What is rwx in the GiBs that an edit touched, and so beside its range: in slots 1 to 7 it asked for less.
-fn stays(table: &Table, edit: Edit) -> Vec<Together> {
+fn stays(table: &Table, edit: Edit) -> Vec<WriteExecute> {
     let register = Register(table.slots()[edit.slot.0 as usize]);
     let gibs = (edit.start.0 >> 30) as usize..=((edit.start.0 + edit.length - 1) >> 30) as usize;
     let touched = gibs.start() * GIB_BLOCKS..(gibs.end() + 1) * GIB_BLOCKS;
@@ -91,7 +95,7 @@ fn stays(table: &Table, edit: Edit) -> Vec<Together> {
     };
     let pages = |entry: &u64| linked(*entry).map_or(false, fields);
     let found = [(6, blocks.iter().any(pieces)), (4, blocks.iter().any(pages))];
-    found.into_iter().filter(|(_, is)| *is).map(|(kind, _)| Together::Stays(kind)).collect()
+    found.into_iter().filter(|(_, is)| *is).map(|(kind, _)| WriteExecute::Stays(kind)).collect()
 }
 
 #[cfg(test)]
@@ -105,12 +109,12 @@ mod tests {
     #[test]
     fn what_a_few_edits_are() {
         let mut sides = Sides::new(&[SECOND]);
-        let mut met = |line: &str| -> Vec<Together> {
+        let mut met = |line: &str| -> Vec<WriteExecute> {
             let command = parse(line).unwrap().unwrap();
             let outcome = sides.obey(&command);
             match (command, outcome) {
                 (Command::Edit(edit), Outcome::Answer(Reply::Call(answer))) => {
-                    Together::of(sides.table().unwrap(), edit, answer)
+                    WriteExecute::of(sides.table().unwrap(), edit, answer)
                 }
                 _ => Vec::new(),
             }
@@ -118,25 +122,25 @@ mod tests {
         for line in ["frame 31 0x40000 8", "open 0 1", "open 1 2", "open 7 3"] {
             assert_eq!(met(line), []);
         }
-        assert_eq!(met("edit 0 0 0x1000 rwx 1"), [Together::Asked(0)]);
-        let neither = Together::Already { first: false, last: false };
-        assert_eq!(met("edit 1 0 0x1000 rwx 1536"), [Together::Asked(1), neither]);
-        assert_eq!(met("edit 7 0x3FFFF000 0x2000 rwx 0"), [Together::Asked(7), neither, Together::OverLent]);
-        assert_eq!(met("edit 7 0x3FFFF000 0x800 rwx 0"), [Together::BadRange]);
+        assert_eq!(met("edit 0 0 0x1000 rwx 1"), [WriteExecute::Asked(0)]);
+        let neither = WriteExecute::Already { first: false, last: false };
+        assert_eq!(met("edit 1 0 0x1000 rwx 1536"), [WriteExecute::Asked(1), neither]);
+        assert_eq!(met("edit 7 0x3FFFF000 0x2000 rwx 0"), [WriteExecute::Asked(7), neither, WriteExecute::OverLent]);
+        assert_eq!(met("edit 7 0x3FFFF000 0x800 rwx 0"), [WriteExecute::BadRange]);
         assert_eq!(met("edit 1 0 0x1000 rx 1536"), []);
         // slot 1's root begins with word 512 and its L1 page with word 1536: block 1 has an rwx piece, block 0 an rwx page
         assert_eq!((met("poke 513 0x60000000000C"), met("poke 1537 0x3")), (vec![], vec![]));
         assert_eq!(met("edit 1 0x4000000 0x1000 rw 2"), [], "cut");
-        assert_eq!(met("edit 1 0x4000000 0x1000 rw 1536"), [Together::Stays(6), Together::Stays(4)]);
-        let first = Together::Already { first: true, last: false };
-        assert_eq!(met("edit 1 0x10000 0x2000 rwx 1536"), [Together::Asked(1), first]);
-        let last = Together::Already { first: false, last: true };
-        assert_eq!(met("edit 1 0 0x11000 rwx 1536"), [Together::Asked(1), last]);
+        assert_eq!(met("edit 1 0x4000000 0x1000 rw 1536"), [WriteExecute::Stays(6), WriteExecute::Stays(4)]);
+        let first = WriteExecute::Already { first: true, last: false };
+        assert_eq!(met("edit 1 0x10000 0x2000 rwx 1536"), [WriteExecute::Asked(1), first]);
+        let last = WriteExecute::Already { first: false, last: true };
+        assert_eq!(met("edit 1 0 0x11000 rwx 1536"), [WriteExecute::Asked(1), last]);
     }
 
     #[test]
     fn every_class_has_a_place_of_its_own() {
-        let mut places: Vec<_> = Together::all().map(Together::place).collect();
+        let mut places: Vec<_> = WriteExecute::all().map(WriteExecute::place).collect();
         let count = places.len();
         places.sort();
         places.dedup();
