@@ -39,10 +39,7 @@ pub fn bad_range(f: Frame, n: usize, q: Request) -> bool
 pub fn write_execute(q: Request) -> bool
     ensures { λ r. ⌜ r ≡ writeExecute (requestOf q) ⌝ }
 {
-    if q.permission != 3 {
-        return false;
-    }
-    q.slot != 0
+    (q.permission == 3) & (q.slot != 0)
 }
 
 // "permission not none and the range meets the lent pages"
