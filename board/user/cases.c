@@ -1,5 +1,5 @@
-/* The bench cases of document 01, A to K, and V and W, as crates/cases names those of document 02, items 3 and 6, by the library alone. One
- * line for each answer; the expected ones are the papers' own numbers, or follow from their text by hand. `bench_cases` returns how many were wrong. */
+/* The bench cases of document 01, A to K, V for item 3 of document 02, and our W for its item 6, by the library alone. One line for each
+ * answer; the expected ones are the papers' own numbers, or follow from their text by hand. `bench_cases` returns how many were wrong. */
 #include "mpt.h"
 #include "say.h"
 #include "second.h"

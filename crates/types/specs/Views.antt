@@ -1,4 +1,4 @@
--- The code's types as the model's: one view for each, with document 01's numbers.
+-- The code's types as the model's: one view for each, with the papers' numbers.
 use mathlib.Core.List.{List, [], _∷_}
 use Prim.Native.Nat.{ℕ}
 use lib.ListN.{take}

@@ -1,4 +1,4 @@
-// Document 01's numbers for what a call answers.
+// The papers' numbers for what a call answers.
 use crate::Cause;
 use crate::Refusal;
 ghost use mathlib.Core.Path.{_≡_};

@@ -220,7 +220,7 @@ const CASES: [Case; 13] = [
             ("edit 1 0xC0000000 0x1000 rx 1536", edited(544, true, Fence::Domain(Sdid(0)))),
             ("peek 2560", Paper::Words(1, 0x3333_3333_3333_3331)),
             ("peek 2561 511", Paper::Words(511, 0x3333_3333_3333_3333)),
-            // as of an edit that began before the rule: page 0xC0001000 is rwx already
+            // page 0xC0001000 of the range is rwx already
             ("edit 1 0xC0000000 0x2000 rwx 1536", refused(Refusal::NoWriteExecute)),
         ],
     },

@@ -257,7 +257,7 @@ fn case_w_pages_that_are_rwx_already() {
     assert_eq!(ask(&mut words, 0x1000, RX), Ok(544));
     assert_eq!(words[96], 0x0000_4000_0008_0001);
     assert_eq!((words[512], words[513]), (0x3333_3333_3333_3331, 0x3333_3333_3333_3333));
-    assert_eq!(ask(&mut words, 0x2000, 3), Err(10), "as of an edit that began before the rule");
+    assert_eq!(ask(&mut words, 0x2000, 3), Err(10), "a page of the range is rwx already");
     assert_eq!(ask(&mut words, 0x4000_0000, RW), Ok(32));
 }
 
