@@ -2,7 +2,7 @@
 use mathlib.Core.Path.{◌≡◌, refl, sym, ◌∙◌}
 use mathlib.Core.Logic.{◌⊎◌, inl, inr}
 use mathlib.Core.Bool.{Bool, true, false, not, ◌&&◌, ◌||◌, true≢false, false≢true}
-pub use mathlib.Core.Bool.{and_assoc, and_true as and-alone}
+pub use mathlib.Core.Bool.{and_assoc, and-true as and-alone}
 pub use borrow.Author.Tests.{not-true as not-true-false, not-false as not-false-true}
 
 pub and_true : (a b : Bool) → (a && b) ≡ true → (a ≡ true) × (b ≡ true)

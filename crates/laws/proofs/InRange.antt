@@ -1,6 +1,6 @@
 -- A page in the range, and one outside, as numbers.
 use mathlib.Core.Path.{◌≡◌, sym, ◌∙◌}
-use mathlib.Core.Bool.{true, false, true≢false, and_false}
+use mathlib.Core.Bool.{true, false, true≢false, and-false}
 use Prim.Native.Nat.{ℕ, ◌+◌, ◌*◌, ◌/◌, ◌-◌, ◌≤◌, ◌<◌}
 use native.Mathlib.Omega.{arith}
 use lib.Dec.{leb, ltb}
@@ -19,7 +19,7 @@ below_false q n l = rw (lt-leb q.start (n * page_bytes) l)
 
 pub above_false : (q : Request) (n : ℕ) → q.start + q.size ≤ n * page_bytes → in_range q n ≡ false
 unfolding in_range
-above_false q n u = rw (le-ltb (n * page_bytes) (q.start + q.size) u) (and_false (leb q.start (n * page_bytes)))
+above_false q n u = rw (le-ltb (n * page_bytes) (q.start + q.size) u) (and-false (leb q.start (n * page_bytes)))
 
 -- ---- and from the test to the numbers
 

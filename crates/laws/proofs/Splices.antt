@@ -1,7 +1,7 @@
 -- A number spliced from two: the digits below k of one, and from k on those of the other.
 use mathlib.Core.Path.{◌≡◌, sym, ap, ◌∙◌, subst}
 use Prim.Native.Nat.{ℕ, zero, suc, ◌+◌, ◌*◌, ◌-◌, ◌/◌, ◌%◌, ◌^◌, ◌≤◌, ◌<◌}
-use native.Mathlib.Nat.{le_of_suc-le-suc, not-suc-le-zero, zero-add, pow-zero, pow-suc, pow-succ', one-le-pow, add-mul-div_left, add-mul-mod_self_left, div-eq_of_lt, mod-lt, mod_mod, div-div-eq-div-mul, mul_comm, mul_left_comm, mul-add, mul-le-mul_left, div-lt_iff_lt-mul}
+use native.Mathlib.Nat.{le_of_suc-le-suc, not-suc-le-zero, zero-add, pow-zero, pow-suc, pow-succ', one-le-pow, add-mul-div_left, add-mul-mod_self_left, div-eq_of_lt, mod-lt, mod-mod, div-div-eq-div-mul, mul_comm, mul_left_comm, mul-add, mul-le-mul_left, div-lt_iff_lt-mul}
 use native.Mathlib.Omega.{arith}
 use lib.Arith.{mod-mul}
 use lib.Dec.{ltb}
@@ -34,7 +34,7 @@ module _ (base : ℕ) (pos : 0 < base) where
   pub splice_below : (k x y i : ℕ) → i < k → digit base (spliced base k x y) i ≡ digit base x i
   splice_below zero x y i h = absurd (not-suc-le-zero h)
   splice_below (suc k) x y zero h =
-      digit_zero base _ ∙ ap (λ (z : ℕ). z % base) (splice_suc k x y) ∙ add-mul-mod_self_left (x % base) base _ ∙ mod_mod x base ∙ sym (digit_zero base x)
+      digit_zero base _ ∙ ap (λ (z : ℕ). z % base) (splice_suc k x y) ∙ add-mul-mod_self_left (x % base) base _ ∙ mod-mod x base ∙ sym (digit_zero base x)
   splice_below (suc k) x y (suc i) h =
       digit_suc base _ i ∙ ap (λ (z : ℕ). digit base z i) (splice_div k x y) ∙ splice_below k (x / base) (y / base) i (le_of_suc-le-suc h) ∙ sym (digit_suc base x i)
 
