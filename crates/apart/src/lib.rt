@@ -1,5 +1,7 @@
 // Are the domains kept apart? Pages that several slots share are found block by block and by words; table pages are walked to.
 // `apart` is an outward call, which `monitor` brings out.
+#![tactic(auto)]
+
 mod crowd;
 mod masks;
 mod who;

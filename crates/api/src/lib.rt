@@ -1,5 +1,7 @@
 // The monitor for C: numbers and slices in, one word out. Nothing here stores through a reference: an edit and an open store into the
 // lent words by `table::store::store_word` alone, and whoever holds the slots puts the register that open answers into its slot.
+#![tactic(auto)]
+
 ghost use Rattle.std.specs.Prelude.{◌≡◌, List, ℕ, ◌/◌, length, get_or};
 ghost use Rattle.model.specs.Calls.{open_slot, close_slot};
 ghost use Rattle.slots.specs.Outcomes.{outcome_of};

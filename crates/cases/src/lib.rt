@@ -1,1 +1,2 @@
 // The cases are in specs/, the claim that they hold in proofs/.
+#![tactic(auto)]

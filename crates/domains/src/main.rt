@@ -1,5 +1,7 @@
 // Opens and closes all eight slots, takes pages and SDIDs again, and meets each refusal of these two calls. The frame is PAW 32 with eight
 // pages from page 0x80000, so that eight roots fill it. Each line is one call, or how many words of a page are not zero.
+#![tactic(auto)]
+
 ghost use Rattle.std.specs.Prelude.{◌≤◌, ◌<◌};
 
 use io::{print_decimal, print_hex, write_all};

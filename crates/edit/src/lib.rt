@@ -1,4 +1,6 @@
 // The edit: the stores of an accepted edit in order, up to a limit, and its answer.
+#![tactic(auto)]
+
 mod block;
 
 ghost use Rattle.std.specs.Prelude.{◌≡◌, true};

@@ -73,7 +73,8 @@ distinct_times (y ∷ ys) h x =
     (λ l. absurd (true≢false (sym (member_some y ys (ltb-true 0 (times y ys) l)) ∙ not-true-false (member y ys) both.0)))
     (λ l. let n : times y ys ≤ 0 = ltb-false 0 (times y ys) l in
     let q : x ≡ y = eqb-true x y e in
-    rw e (rw q (omega arith))))
+    let m : times x ys ≤ 0 = subst (λ (z : ℕ). times z ys ≤ 0) (sym q) n in
+    rw e (omega arith)))
     (λ e. rw e (omega (arith, distinct_times ys both.1 x)))
 
 pub times_distinct : (ys : List ℕ) → ((x : ℕ) → times x ys ≤ 1) → distinct ys ≡ true

@@ -1,4 +1,6 @@
 // The lookup: frame, register, privilege, Bare, walk, permission.
+#![tactic(auto)]
+
 ghost use Rattle.std.specs.Prelude.{◌≡◌, true, ◌<◌};
 ghost use Rattle.model.specs.Frame.{bounds_ok};
 ghost use Rattle.model.specs.Walk as walk;

@@ -1,5 +1,7 @@
 // The lookups of document 01's bench cases A, E and I, of item 3 of document 02, and of the slips that they name, on a table memory that is
 // put together here word by word. Two pages from page 0x80000 are enough for these cases: a root and one L1 page. Each line is one lookup.
+#![tactic(auto)]
+
 use io::{print_decimal, print_hex, write_all};
 use libc::STDOUT_FILENO;
 use lookup::lookup;

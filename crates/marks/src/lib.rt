@@ -1,4 +1,6 @@
 // Marks, one bit each. A mark stands if its bit is 1, and says then that a page, or an SDID, is free.
+#![tactic(auto)]
+
 ghost use Rattle.std.specs.Prelude.{◌≡◌, ◌<◌};
 ghost use Rattle.marks.specs.Marks.{MARKS, mark_at, unmark, no_marks, all_marks, LowestBit, Lowest};
 

@@ -1,5 +1,7 @@
 // The outward calls. None has a `requires`: whatever is handed in gets an answer, and a refusal changes nothing.
 // The contract of `edit` is here, those of `open` and `close` in `slots`, that of `lookup` in `lookup`, that of `apart` in `apart`.
+#![tactic(auto)]
+
 ghost use Rattle.std.specs.Prelude.{◌≡◌};
 ghost use Rattle.model.specs.Calls as calls;
 ghost use Rattle.types.specs.Views.{permission_number, request_of};

@@ -1,5 +1,7 @@
 // The slots: what a call answers and leaves, what it asks of the slot that it names, and opening and closing one.
 // `open` and `close` are outward calls, which `monitor` brings out.
+#![tactic(auto)]
+
 pub mod named;
 mod zero;
 

@@ -1,5 +1,7 @@
 // The whole-table check: one pass, root by root and GiB by GiB. A page that it meets loses its mark, so that of the lent pages of a sound
 // table just the free ones keep theirs.
+#![tactic(auto)]
+
 pub mod pick;
 
 ghost use Rattle.std.specs.Prelude.{◌≡◌, true, ◌+◌, ◌-◌, ◌%◌, ◌≤◌, ◌<◌, length, get_or};

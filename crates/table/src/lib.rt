@@ -1,4 +1,6 @@
 // The leaves, each on one word or one number. What differs between the boards is in `board`.
+#![tactic(auto)]
+
 pub mod board;
 pub mod lent;
 pub mod place;

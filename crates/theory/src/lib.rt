@@ -1,1 +1,2 @@
 // The theorems are in proofs/; `Demands` is the one to open first.
+#![tactic(auto)]

@@ -1,4 +1,6 @@
 // The types of the monitor, the same on every board, and what is said of them alone.
+#![tactic(auto)]
+
 pub mod bits;
 pub mod code;
 pub mod needed_page;
