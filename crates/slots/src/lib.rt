@@ -22,7 +22,7 @@ use table::{lent, register};
 use types::{Admission, Fence, Frame, PageNumber, Refusal, Reply, Sdid};
 
 // What a call leaves, beside the lent memory.
-#[derive(Drop)]
+#[derive(Clone, Copy)]
 pub struct Outcome {
     pub reply: Reply,
     pub slots: [Word; 8],

@@ -9,23 +9,23 @@ pub mod pages;
 pub mod rights;
 
 // A page number, an address and an SDID are different kinds.
-#[derive(Drop)]
+#[derive(Clone, Copy)]
 pub struct PageNumber(pub u64);
 
-#[derive(Drop)]
+#[derive(Clone, Copy)]
 pub struct Address(pub u64);
 
-#[derive(Drop)]
+#[derive(Clone, Copy)]
 pub struct Sdid(pub u64);
 
 // The physical address width and the first lent page. The lent memory stands beside it, as words of one entry each.
-#[derive(Drop)]
+#[derive(Clone, Copy)]
 pub struct Frame {
     pub paw: u64,
     pub first: PageNumber,
 }
 
-#[derive(Drop)]
+#[derive(Clone, Copy)]
 pub enum Permission {
     None,
     Rx,
@@ -33,14 +33,14 @@ pub enum Permission {
     Rwx,
 }
 
-#[derive(Drop)]
+#[derive(Clone, Copy)]
 pub enum Need {
     Read,
     Write,
     Execute,
 }
 
-#[derive(Drop)]
+#[derive(Clone, Copy)]
 pub enum Access {
     Fetch,
     Load,
@@ -48,7 +48,7 @@ pub enum Access {
 }
 
 // An access itself, or a page-table read or an A/D update on behalf of one.
-#[derive(Drop)]
+#[derive(Clone, Copy)]
 pub enum Kind {
     Itself(Access),
     TableRead(Access),
@@ -56,7 +56,7 @@ pub enum Kind {
 }
 
 // The effective privilege.
-#[derive(Drop)]
+#[derive(Clone, Copy)]
 pub enum Privilege {
     Machine,
     Supervisor,
@@ -64,7 +64,7 @@ pub enum Privilege {
 }
 
 // The access whose fault it is: 1, 5 and 7.
-#[derive(Drop)]
+#[derive(Clone, Copy)]
 pub enum Cause {
     Fetch,
     Load,
@@ -72,7 +72,7 @@ pub enum Cause {
 }
 
 // Why the monitor says no: 1 to 8 in this order, and 10.
-#[derive(Drop)]
+#[derive(Clone, Copy)]
 pub enum Refusal {
     Frame,
     Register,
@@ -86,7 +86,7 @@ pub enum Refusal {
 }
 
 // What a lookup answers.
-#[derive(Drop)]
+#[derive(Clone, Copy)]
 pub enum Answer {
     Allowed,
     Fault(Cause),
@@ -94,7 +94,7 @@ pub enum Answer {
 }
 
 // The fence that a call asks for: none, the whole domain, or one address of it. SDID 0 and address 0 are values like any other.
-#[derive(Drop)]
+#[derive(Clone, Copy)]
 pub enum Fence {
     Nothing,
     Domain(Sdid),
@@ -102,7 +102,7 @@ pub enum Fence {
 }
 
 // What an L2 entry says of its block: one permission, as its two bits; a permission for each piece; an L1 page; or nothing.
-#[derive(Drop)]
+#[derive(Clone, Copy)]
 pub enum Entry {
     Flat(u64),
     Pieces(u64),
@@ -111,7 +111,7 @@ pub enum Entry {
 }
 
 // What the walk finds.
-#[derive(Drop)]
+#[derive(Clone, Copy)]
 pub enum Found {
     Grant(Permission),
     Fault,
@@ -120,14 +120,14 @@ pub enum Found {
 // ---- calls
 
 // Whether a call may go on once the frame and the table are seen, or which refusal fits.
-#[derive(Drop)]
+#[derive(Clone, Copy)]
 pub enum Admission {
     Granted,
     Refused(Refusal),
 }
 
 // What an edit asks. The permission is its two bits, as an entry holds them.
-#[derive(Drop)]
+#[derive(Clone, Copy)]
 pub struct Request {
     pub slot: u64,
     pub start: Address,
@@ -136,7 +136,7 @@ pub struct Request {
 }
 
 // An edit: its frame, what it asks, and the root page of its slot.
-#[derive(Drop)]
+#[derive(Clone, Copy)]
 pub struct Edit {
     pub f: Frame,
     pub q: Request,
@@ -144,7 +144,7 @@ pub struct Edit {
 }
 
 // What a call answers, beside the fence.
-#[derive(Drop)]
+#[derive(Clone, Copy)]
 pub enum Reply {
     Refused(Refusal),
     Opened,
@@ -156,7 +156,7 @@ pub enum Reply {
 // ---- blocks
 
 // Where a run of pages lies, seen from the range.
-#[derive(Drop)]
+#[derive(Clone, Copy)]
 pub enum Place {
     Inside,
     Outside,
@@ -164,7 +164,7 @@ pub enum Place {
 }
 
 // The finished form of a block.
-#[derive(Drop)]
+#[derive(Clone, Copy)]
 pub enum Form {
     Flat(u64),
     Pieces(u64),
@@ -172,7 +172,7 @@ pub enum Form {
 }
 
 // A block that gets a new L1 page: the block's entry, its number, and the page.
-#[derive(Drop)]
+#[derive(Clone, Copy)]
 pub struct NewPage {
     pub e: Entry,
     pub b: u64,
@@ -180,14 +180,14 @@ pub struct NewPage {
 }
 
 // Whether a piece is of one permission once the edit is whole, and the permission of its first page.
-#[derive(Drop)]
+#[derive(Clone, Copy)]
 pub struct Piece {
     pub one: bool,
     pub p: u64,
 }
 
 // Whether a GiB is of one permission once the edit is whole, and the permission of its first page.
-#[derive(Drop)]
+#[derive(Clone, Copy)]
 pub struct Gib {
     pub one: bool,
     pub p: u64,
@@ -196,21 +196,21 @@ pub struct Gib {
 // ---- stores up to a limit
 
 // How many more stores may be made, and which word the last one went to.
-#[derive(Drop)]
+#[derive(Clone, Copy)]
 pub struct Budget {
     pub more: u64,
     pub last: usize,
 }
 
 // The progress of some stores: all were made, and what is left; or the limit cut them.
-#[derive(Drop)]
+#[derive(Clone, Copy)]
 pub struct Progress {
     pub left: Budget,
     pub all: bool,
 }
 
 // The progress of a row of entries, and how many of them it was.
-#[derive(Drop)]
+#[derive(Clone, Copy)]
 pub struct RowProgress {
     pub left: Budget,
     pub count: usize,
@@ -218,7 +218,7 @@ pub struct RowProgress {
 }
 
 // The progress of some blocks, the next new page, and how many blocks it was.
-#[derive(Drop)]
+#[derive(Clone, Copy)]
 pub struct BlocksProgress {
     pub left: Budget,
     pub next: u64,
@@ -227,7 +227,7 @@ pub struct BlocksProgress {
 }
 
 // What an edit answers: how many stores it made, whether that was all, and the fence.
-#[derive(Drop)]
+#[derive(Clone, Copy)]
 pub struct StoresMade {
     pub count: u64,
     pub fence: Fence,
@@ -236,7 +236,7 @@ pub struct StoresMade {
 
 // The two lowest of the free pages, and how many of these two there are: an edit takes no more than two. Page 0, which is never lent,
 // stands for none.
-#[derive(Drop)]
+#[derive(Clone, Copy)]
 pub struct Free {
     pub count: u64,
     pub first: PageNumber,
@@ -247,7 +247,7 @@ pub struct Free {
 
 // How much is asked: that no page is open to two domains, nor a table page to any; or that domains share no page that one of them may write,
 // and that none may write a table page.
-#[derive(Drop)]
+#[derive(Clone, Copy)]
 pub enum Strength {
     Strict,
     Sharing,
@@ -255,7 +255,7 @@ pub enum Strength {
 
 // What is answered: a refusal; apart; or of the lowest page at fault its number, the lowest slot that reaches a table page, or the lowest two that
 // share a page, and whether a slot that is told may write it.
-#[derive(Drop)]
+#[derive(Clone, Copy)]
 pub enum Separation {
     Refused(Refusal),
     Apart,
@@ -264,7 +264,7 @@ pub enum Separation {
 }
 
 // What some slots have of a run of pages, a bit for each page: it is open to one or more of them; to two or more; one or more reach it.
-#[derive(Drop)]
+#[derive(Clone, Copy)]
 pub struct Masks {
     pub once: u64,
     pub twice: u64,
@@ -272,14 +272,14 @@ pub struct Masks {
 }
 
 // Where the words of an L1 page begin, and how many L1 pages that is: one, or none.
-#[derive(Drop)]
+#[derive(Clone, Copy)]
 pub struct L1Start {
     pub at: usize,
     pub count: usize,
 }
 
 // What the slots have of a block: the masks, by pieces, of those that have no L1 page there; and where the words of the others' L1 pages begin.
-#[derive(Drop)]
+#[derive(Clone, Copy)]
 pub struct Shares {
     pub even: Masks,
     pub tables: [usize; 8],
@@ -289,25 +289,25 @@ pub struct Shares {
 // ---- codes
 
 // A privilege, a kind of access, a strength and a permission by their codes, if they name one.
-#[derive(Drop)]
+#[derive(Clone, Copy)]
 pub enum PrivilegeCode {
     Known(Privilege),
     Unknown,
 }
 
-#[derive(Drop)]
+#[derive(Clone, Copy)]
 pub enum KindCode {
     Known(Kind),
     Unknown,
 }
 
-#[derive(Drop)]
+#[derive(Clone, Copy)]
 pub enum StrengthCode {
     Known(Strength),
     Unknown,
 }
 
-#[derive(Drop)]
+#[derive(Clone, Copy)]
 pub enum PermissionCode {
     Known(Permission),
     Unknown,
