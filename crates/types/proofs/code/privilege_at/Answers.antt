@@ -1,0 +1,20 @@
+-- `types::code::privilege_at` meets its contract: the tests in the definition's order.
+use Rattle.laws.proofs.Tests.{tests}
+use Rattle.types.specs.Codes.{privilege_at}
+use Rattle.types.proofs.code.privilege_at.Goals as goal
+
+pub returns-then-code-eq0 : goal.returns-then-code-eq0
+unfolding privilege_at
+returns-then-code-eq0 c = search tests
+
+pub returns-then-code-eq1 : goal.returns-then-code-eq1
+unfolding privilege_at
+returns-then-code-eq1 c = search tests
+
+pub returns-then-code-eq3 : goal.returns-then-code-eq3
+unfolding privilege_at
+returns-then-code-eq3 c = search tests
+
+pub returns : goal.returns
+unfolding privilege_at
+returns c = search tests
