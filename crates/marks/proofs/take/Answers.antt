@@ -23,7 +23,7 @@ stands : (c : Else-word-bit-eq0) → let a = c.args in digit 2 (get_or a.marks.n
 stands c =
     let a = c.args in
     let odd : get_or a.marks.now (a.i / 64) 0 / c.pow2-bit.result % 2 ≡ 1 = omega (arith, c.if-word-bit-eq0.false, mod-lt (get_or a.marks.now (a.i / 64) 0 / c.pow2-bit.result) (lit< {m = 0} {n = 2} tt)) in
-    sym (bit_is (goal.at.? c).After-word-1) ∙ odd
+    sym (bit_is (goal.at.returns c).After-word-1) ∙ odd
 
 pub returns-then-word-bit-eq0 : goal.returns-then-word-bit-eq0
 unfolding mark_at unmark

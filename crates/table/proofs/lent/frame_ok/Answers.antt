@@ -12,6 +12,7 @@ use Rattle.table.specs.Board.{board}
 use Rattle.model.specs.Frame.{space, bounds_ok, frame_ok}
 use Rattle.laws.proofs.Tests.{tests}
 use Rattle.table.proofs.lent.frame_ok.Goals as goal
+use Rattle.table.proofs.lent.frame_ok.Goals.{After-pow2}
 
 -- so many words are whole pages
 whole : (n : ℕ) (b : Bool) → eqb (n % board.words) 0 ≡ b → eqb (n % board.words) 0 ≡ eqb n (n / board.words * board.words)
@@ -48,16 +49,16 @@ overflow_sub-pow2 c = omega (arith, c.pow2.ensures, pow_mono {i = 18} {j = c.arg
 
 pub returns-then-pow2-pages : goal.returns-then-pow2-pages
 unfolding frame_ok bounds_ok space
-returns-then-pow2-pages c = c.args in
+returns-then-pow2-pages c = let a = c.args in
     let p = c.pow2.ensures in
     let e : leb (a.f.first.0 + length a.words.now / board.words) (2 ^ (a.f.paw - 12)) ≡ false
-    = lt-leb (a.f.first.0 + length a.words.now / board.words) (2 ^ (a.f.paw - 12)) (omega (arith, p, sub-if6 (goal.at.returns-then-pow2-pages c).After-pow2)) in
+    = lt-leb (a.f.first.0 + length a.words.now / board.words) (2 ^ (a.f.paw - 12)) (omega (arith, p, overflow_sub-pow2 (goal.at.returns-then-pow2-pages c).After-pow2)) in
     sym (inside a.f.paw a.f.first.0 (length a.words.now / board.words) _ _ (omega arith) (omega arith) (omega arith) (omega arith) (omega arith) ∙ rw e)
 
 pub returns : goal.returns
 unfolding frame_ok bounds_ok space
-returns c = c.args in
+returns c = let a = c.args in
     let p = c.pow2.ensures in
     let e : leb (a.f.first.0 + length a.words.now / board.words) (2 ^ (a.f.paw - 12)) ≡ true
-    = le-leb (a.f.first.0 + length a.words.now / board.words) (2 ^ (a.f.paw - 12)) (omega (arith, p, sub-if6 (goal.at.returns c).After-pow2)) in
+    = le-leb (a.f.first.0 + length a.words.now / board.words) (2 ^ (a.f.paw - 12)) (omega (arith, p, overflow_sub-pow2 (goal.at.returns c).After-pow2)) in
     sym (inside a.f.paw a.f.first.0 (length a.words.now / board.words) _ _ (omega arith) (omega arith) (omega arith) (omega arith) (omega arith) ∙ rw e (sym (whole (length a.words.now) _ refl)))

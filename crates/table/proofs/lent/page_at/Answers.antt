@@ -5,11 +5,11 @@ use Rattle.laws.proofs.FrameNumbers.{lent_in}
 use Rattle.table.proofs.lent.page_at.Goals as goal
 
 pub overflow_sub-result : goal.overflow_sub-result
-overflow_sub-result c = lent_in _ _ c.requires in omega arith
+overflow_sub-result c = let h = lent_in _ _ c.requires in omega arith
 
 pub overflow_mul-result : goal.overflow_mul-result
-overflow_mul-result c = lent_in _ _ c.requires in omega arith
+overflow_mul-result c = let h = lent_in _ _ c.requires in omega arith
 
 pub returns : goal.returns
 unfolding index_of
-returns c = lent_in _ _ c.requires in omega arith
+returns c = let h = lent_in _ _ c.requires in omega arith
