@@ -27,7 +27,7 @@ asked : (c : After-may) (k : Kind) → let a = c.args in views.need_view a.need 
 asked c k n = ap₂ (λ (p : ℕ) (need : Need). may p need) (sym c.granted.ensures) (sym n) ∙ sym c.may.ensures
 
 pub returns-then-may : goal.returns-then-may
-returns-then-may c = rw (judged, asked (goal.at.returns-then-may c).After-may k n ∙ c.if-may.true)
+returns-then-may c = λ k n e. rw (judged, asked (goal.at.returns-then-may c).After-may k n ∙ c.if-may.true)
 
 pub returns : goal.returns
-returns c = rw (judged, asked (goal.at.returns c).After-may k n ∙ c.if-may.false) (ap (λ (cause : ℕ). fault cause) e)
+returns c = λ k n e. rw (judged, asked (goal.at.returns c).After-may k n ∙ c.if-may.false) (ap (λ (cause : ℕ). fault cause) e)

@@ -13,18 +13,18 @@ use Rattle.lookup.proofs.lookup.Goals.{Else-not-frame_ok, Else-not-register_ok}
 
 -- the frame is within its bounds, and the register is not refused
 frame-passes : (c : Else-not-frame_ok) → let a = c.args in frame_ok (frame_of a.f a.words.now) a.words.now ≡ true
-frame-passes c = sym c.frame_ok.ensures ∙ not-false _ c.if-not-frame_ok.false
+frame-passes c = sym c.frame_ok.ensures ∙ c.if-not-frame_ok.false
 
 register-passes : (c : Else-not-register_ok) → register_ok board c.args.register ≡ true
-register-passes c = sym c.register_ok.ensures ∙ not-false _ c.if-not-register_ok.false
+register-passes c = sym c.register_ok.ensures ∙ c.if-not-register_ok.false
 
 pub returns-then-not-frame_ok : goal.returns-then-not-frame_ok
 unfolding lookup
-returns-then-not-frame_ok c = rw (sym c.frame_ok.ensures ∙ not-true _ c.if-not-frame_ok.true)
+returns-then-not-frame_ok c = rw (sym c.frame_ok.ensures ∙ c.if-not-frame_ok.true)
 
 pub returns-then-not-register_ok : goal.returns-then-not-register_ok
 unfolding lookup
-returns-then-not-register_ok c = rw (frame-passes (goal.at.returns-then-not-register_ok c).Else-not-frame_ok, sym c.register_ok.ensures ∙ not-true _ c.if-not-register_ok.true)
+returns-then-not-register_ok c = rw (frame-passes (goal.at.returns-then-not-register_ok c).Else-not-frame_ok, sym c.register_ok.ensures ∙ c.if-not-register_ok.true)
 
 pub returns-then-is_machine : goal.returns-then-is_machine
 unfolding lookup
