@@ -1,0 +1,11 @@
+-- `range::l1_entries::first_entry` meets its contract: an entry below the one that holds the start ends before the range.
+use native.Mathlib.Omega.{arith}
+use Rattle.laws.proofs.InRange.{below_false}
+use borrow.Author.Rules.{rules}
+use Rattle.range.proofs.l1_entries.first_entry.Goals as goal
+
+pub returns-then-base-low : goal.returns-then-base-low
+returns-then-base-low c = (omega arith, λ k hi lo. below_false _ k (omega arith))
+
+pub returns : goal.returns
+returns c = (omega arith, λ k hi lo. below_false _ k (omega arith))

@@ -1,0 +1,25 @@
+-- `sound::all_flat` meets its contract: the invariant: what was gathered, and the rest of the GiB, decide the whole.
+use mathlib.Core.Path.{◌≡◌, refl, sym, ap, ◌∙◌}
+use mathlib.Core.Bool.{Bool, false, ◌&&◌}
+use mathlib.Core.List.{List}
+use Prim.Native.Nat.{ℕ, ◌+◌, ◌-◌, ◌≤◌, ◌<◌}
+use native.Mathlib.Nat.{add-zero}
+use native.Mathlib.Omega.{arith}
+use borrow.Author.Rules.{rules}
+use borrow.Author.Tests.{not-true}
+use lib.Bits.{bit_or}
+use lib.ListN.{get_or}
+use Rattle.model.specs.Layout.{gib_blocks}
+use Rattle.model.specs.Numbers.{every}
+use Rattle.laws.proofs.Choices.{and-alone}
+use Rattle.laws.proofs.Every.{every_step, every_next, every_none}
+use Rattle.scan.specs.Scan.{flat_word}
+use Rattle.scan.proofs.FlatEntries.{flat_gathered}
+use Rattle.table.specs.Board.{board}
+use Rattle.sound.proofs.all_flat.Given as goal
+
+abbrev pub invariant-loop-i : goal.invariant-loop-i
+invariant-loop-i l = (l.i ≤ gib_blocks) × (every (test l.words l.at) gib_blocks 0 ≡ (flat_word board l.initial.i && every (test l.words l.at) (gib_blocks - l.i) l.i))
+
+abbrev pub decreases-loop-i : goal.decreases-loop-i
+decreases-loop-i l = gib_blocks - l.i

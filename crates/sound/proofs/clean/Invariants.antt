@@ -1,0 +1,23 @@
+-- `sound::clean` meets its contract: the invariant: what was gathered, tested by the mask, and the rest of the page decide the whole page.
+use mathlib.Core.Path.{◌≡◌, refl, sym, ap, ◌∙◌}
+use mathlib.Core.Bool.{Bool, ◌&&◌}
+use mathlib.Core.List.{List}
+use Prim.Native.Nat.{ℕ, ◌+◌, ◌-◌, ◌≤◌, ◌<◌}
+use native.Mathlib.Omega.{arith}
+use borrow.Author.Rules.{rules}
+use lib.Bits.{bit_and, bit_or}
+use lib.Dec.{eqb}
+use lib.ListN.{get_or}
+use Rattle.model.specs.Numbers.{every}
+use Rattle.model.specs.Entry as entry
+use Rattle.laws.proofs.Choices.{and-alone}
+use Rattle.laws.proofs.Every.{every_next, every_none}
+use Rattle.laws.proofs.Reserved.{reserved, gathered}
+use Rattle.table.specs.Board.{board}
+use Rattle.sound.proofs.clean.Given as goal
+
+abbrev pub invariant-loop-i : goal.invariant-loop-i
+invariant-loop-i l = (l.i ≤ W) × (every (test l.words l.at) W 0 ≡ (eqb (bit_and l.initial.i (reserved board)) 0 && every (test l.words l.at) (W - l.i) l.i))
+
+abbrev pub decreases-loop-i : goal.decreases-loop-i
+decreases-loop-i l = W - l.i

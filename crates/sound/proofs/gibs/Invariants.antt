@@ -1,0 +1,18 @@
+-- `sound::gibs` meets its contract: the invariant: the GiBs that are left, one at the least, decide the whole from the marks so far.
+use mathlib.Core.Path.{◌≡◌, sym, ◌∙◌}
+use Prim.Native.Nat.{◌+◌, ◌-◌, ◌%◌, ◌≤◌}
+use native.Mathlib.Omega.{arith}
+use lib.ListN.{length}
+use borrow.Author.Tests.{not-true, not-false}
+use Rattle.model.specs.Layout.{gib_blocks}
+use Rattle.table.specs.Board.{frame_of}
+use Rattle.scan.specs.Scan.{scan_run, word_step}
+use Rattle.scan.proofs.Loops.{left, left_all, left_on, left_stopped, left_none}
+use Rattle.sound.proofs.gibs.Given as goal
+
+abbrev pub invariant-loop-f : goal.invariant-loop-f
+invariant-loop-f l = (l.start ≤ l.at) × (l.at + gib_blocks ≤ l.end) × ((l.end - l.at) % gib_blocks ≡ 0) × (l.end ≤ length l.words)
+    × (scan_run (word_step (frame_of l.f l.words) l.words l.start) l.initial.free (l.end - l.start) 0 ≡ left (frame_of l.f l.words) l.words l.start l.end l.at l.initial.at)
+
+abbrev pub decreases-loop-f : goal.decreases-loop-f
+decreases-loop-f l = l.end - l.at

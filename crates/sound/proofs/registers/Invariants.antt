@@ -1,0 +1,17 @@
+-- `sound::registers` meets its contract: the invariant: the slots that are left, from the marks so far, decide the whole.
+use mathlib.Core.Path.{◌≡◌, refl, sym, ◌∙◌}
+use Prim.Native.Nat.{◌-◌, ◌≤◌, ◌<◌}
+use native.Mathlib.Omega.{arith}
+use lib.ListN.{length, drop}
+use borrow.Author.Rules.{rules}
+use borrow.Author.Tests.{not-true, not-false}
+use Rattle.table.specs.Board.{board}
+use Rattle.scan.specs.Scan.{scan_all, register_step}
+use Rattle.scan.proofs.Loops.{all_on, all_stopped, all_ended}
+use Rattle.sound.proofs.registers.Given as goal
+
+abbrev pub invariant-loop-i : goal.invariant-loop-i
+invariant-loop-i l = (l.i ≤ 8) × (length l.sdids ≡ 8) × (scan_all (register_step board) l.initial.sdids l.sdids ≡ scan_all (register_step board) l.initial.i (drop l.i l.sdids))
+
+abbrev pub decreases-loop-i : goal.decreases-loop-i
+decreases-loop-i l = 8 - l.i

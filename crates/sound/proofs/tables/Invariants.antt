@@ -1,0 +1,18 @@
+-- `sound::tables` meets its contract: the invariant: the slots that are left, from the marks so far, decide the whole.
+use mathlib.Core.Path.{◌≡◌, refl, sym, ◌∙◌}
+use Prim.Native.Nat.{◌-◌, ◌≤◌, ◌<◌}
+use native.Mathlib.Omega.{arith}
+use lib.ListN.{length, drop}
+use borrow.Author.Rules.{rules}
+use borrow.Author.Tests.{not-true, not-false}
+use Rattle.table.specs.Board.{frame_of}
+use Rattle.scan.specs.Scan.{scan_all, slot_step}
+use Rattle.scan.proofs.Loops.{all_on, all_stopped, all_ended}
+use Rattle.sound.proofs.tables.Given as goal
+
+abbrev pub invariant-loop-i : goal.invariant-loop-i
+invariant-loop-i l = (l.i ≤ 8) × (length l.free ≡ 8)
+    × (scan_all (slot_step (frame_of l.f l.words) l.words) l.initial.free l.free ≡ scan_all (slot_step (frame_of l.f l.words) l.words) l.initial.i (drop l.i l.free))
+
+abbrev pub decreases-loop-i : goal.decreases-loop-i
+decreases-loop-i l = 8 - l.i
