@@ -31,20 +31,41 @@ registers-are c =
     let a = c.args in
     registers_said (frame_of a.f a.words.now) a.words.now a.slots _ _ c.all_marks-sdids.ensures c.registers.ensures
 
+frame-passes-at-After-tables : (c : After-tables) → let a = c.args in frame_ok (frame_of a.f a.words.now) a.words.now ≡ true
+frame-passes-at-After-tables c = sym c.frame_ok.ensures ∙ c.if-not-frame_ok.false
+
 -- what the tables' pass says
 tables-are : (c : After-tables) → let a = c.args in let F = frame_of a.f a.words.now in
     (c.tables.result ≡ sound_table F a.words.now (roots F a.slots))
-    × (c.tables.result ≡ true → c.tables.new.1.1.1.0 ≡ unmark_all all_marks (map (place F) (used F a.words.now (roots F a.slots))))
+    × (c.tables.result ≡ true → c.tables.new.free ≡ unmark_all all_marks (map (place F) (used F a.words.now (roots F a.slots))))
 tables-are c =
     let a = c.args in
-    tables_said (frame_of a.f a.words.now) a.words.now (framed _ _ (frame-passes (goal.at.? c).Else-not-frame_ok)).0 (omega arith) a.slots _ _ c.all_marks.ensures c.tables.ensures
+    tables_said (frame_of a.f a.words.now) a.words.now (framed _ _ (frame-passes-at-After-tables c)).0 (omega arith) a.slots _ _ c.all_marks.ensures c.tables.ensures
+
+-- what the registers' pass says
+registers-are-at-Else-not-tables : (c : Else-not-tables) → let a = c.args in
+    c.registers.result ≡ sound_slots (frame_of a.f a.words.now) a.slots
+registers-are-at-Else-not-tables c =
+    let a = c.args in
+    registers_said (frame_of a.f a.words.now) a.words.now a.slots _ _ c.all_marks-sdids.ensures c.registers.ensures
+
+frame-passes-at-Else-not-tables : (c : Else-not-tables) → let a = c.args in frame_ok (frame_of a.f a.words.now) a.words.now ≡ true
+frame-passes-at-Else-not-tables c = sym c.frame_ok.ensures ∙ c.if-not-frame_ok.false
+
+-- what the tables' pass says
+tables-are-at-Else-not-tables : (c : Else-not-tables) → let a = c.args in let F = frame_of a.f a.words.now in
+    (c.tables.result ≡ sound_table F a.words.now (roots F a.slots))
+    × (c.tables.result ≡ true → c.tables.new.free ≡ unmark_all all_marks (map (place F) (used F a.words.now (roots F a.slots))))
+tables-are-at-Else-not-tables c =
+    let a = c.args in
+    tables_said (frame_of a.f a.words.now) a.words.now (framed _ _ (frame-passes-at-Else-not-tables c)).0 (omega arith) a.slots _ _ c.all_marks.ensures c.tables.ensures
 
 -- the table is sound
 all_sound : (c : Else-not-tables) → let a = c.args in let F = frame_of a.f a.words.now in
     sound F a.words.now a.slots ≡ true
 unfolding sound
 all_sound c =
-    and_both (sym (registers-are (goal.at.returns c).After-registers) ∙ c.if-not-registers.false) (sym (tables-are (goal.at.returns c).After-tables).0 ∙ c.if-not-tables.false)
+    and_both (sym (registers-are-at-Else-not-tables c) ∙ c.if-not-registers.false) (sym (tables-are-at-Else-not-tables c).0 ∙ c.if-not-tables.false)
 
 pub returns-then-not-frame_ok : goal.returns-then-not-frame_ok
 unfolding admission_of

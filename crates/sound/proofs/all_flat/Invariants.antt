@@ -18,8 +18,12 @@ use Rattle.scan.proofs.FlatEntries.{flat_gathered}
 use Rattle.table.specs.Board.{board}
 use Rattle.sound.proofs.all_flat.Given as goal
 
+-- an entry of the GiB
+abbrev pub test : List ℕ → ℕ → ℕ → Bool
+test m at i = flat_word board (get_or m (at + i) 0)
+
 abbrev pub invariant-loop-i : goal.invariant-loop-i
-invariant-loop-i l = (l.i ≤ gib_blocks) × (every (test l.words l.at) gib_blocks 0 ≡ (flat_word board l.initial.i && every (test l.words l.at) (gib_blocks - l.i) l.i))
+invariant-loop-i l = (l.i ≤ gib_blocks) × (every (test l.words l.at) gib_blocks 0 ≡ (flat_word board l.all && every (test l.words l.at) (gib_blocks - l.i) l.i))
 
 abbrev pub decreases-loop-i : goal.decreases-loop-i
 decreases-loop-i l = gib_blocks - l.i

@@ -16,8 +16,15 @@ use Rattle.laws.proofs.Reserved.{reserved, gathered}
 use Rattle.table.specs.Board.{board}
 use Rattle.sound.proofs.clean.Given as goal
 
+abbrev pub W : ℕ
+W = board.words
+
+-- an entry of the page
+abbrev pub test : List ℕ → ℕ → ℕ → Bool
+test m at i = entry.clean board (get_or m (at + i) 0)
+
 abbrev pub invariant-loop-i : goal.invariant-loop-i
-invariant-loop-i l = (l.i ≤ W) × (every (test l.words l.at) W 0 ≡ (eqb (bit_and l.initial.i (reserved board)) 0 && every (test l.words l.at) (W - l.i) l.i))
+invariant-loop-i l = (l.i ≤ W) × (every (test l.words l.at) W 0 ≡ (eqb (bit_and l.all (reserved board)) 0 && every (test l.words l.at) (W - l.i) l.i))
 
 abbrev pub decreases-loop-i : goal.decreases-loop-i
 decreases-loop-i l = W - l.i

@@ -12,7 +12,7 @@ use Rattle.sound.proofs.entries.Given as goal
 
 abbrev pub invariant-loop-i : goal.invariant-loop-i
 invariant-loop-i l = (l.start ≤ l.i) × (l.i ≤ l.end) × (l.end ≤ length l.words)
-    × (scan_run (word_step (frame_of l.f l.words) l.words l.start) l.initial.free (l.end - l.start) 0 ≡ left (frame_of l.f l.words) l.words l.start l.end l.i l.initial.i)
+    × (scan_run (word_step (frame_of l.f l.words) l.words l.start) l.initial.free (l.end - l.start) 0 ≡ left (frame_of l.f l.words) l.words l.start l.end l.i l.free)
 
 abbrev pub decreases-loop-i : goal.decreases-loop-i
 decreases-loop-i l = l.end - l.i

@@ -12,7 +12,7 @@ use Rattle.sound.proofs.gibs.Given as goal
 
 abbrev pub invariant-loop-f : goal.invariant-loop-f
 invariant-loop-f l = (l.start ≤ l.at) × (l.at + gib_blocks ≤ l.end) × ((l.end - l.at) % gib_blocks ≡ 0) × (l.end ≤ length l.words)
-    × (scan_run (word_step (frame_of l.f l.words) l.words l.start) l.initial.free (l.end - l.start) 0 ≡ left (frame_of l.f l.words) l.words l.start l.end l.at l.initial.at)
+    × (scan_run (word_step (frame_of l.f l.words) l.words l.start) l.initial.free (l.end - l.start) 0 ≡ left (frame_of l.f l.words) l.words l.start l.end l.at l.free)
 
 abbrev pub decreases-loop-f : goal.decreases-loop-f
 decreases-loop-f l = l.end - l.at

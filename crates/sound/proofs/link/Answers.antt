@@ -17,7 +17,7 @@ page_at-requires c = claimed_lent _ _ _ (rw c.if-claim.true at c.claim.ensures)
 pub returns-then-claim : goal.returns-then-claim
 unfolding link_step clean_page
 returns-then-claim c = rw (← c.claim.ensures, c.if-claim.true)
-    (ap (λ (r : Bool). scanned r c.claim.new.1.1.1.0)
+    (ap (λ (r : Bool). scanned r c.claim.new.free)
     (c.clean.ensures ∙ every_cong _ _ board.words 0 (λ i l u. ap (entry.clean board) (word_at_lem _ _ _ i _ c.page_at.ensures.0))))
 
 pub returns : goal.returns

@@ -11,7 +11,7 @@ use Rattle.scan.proofs.Loops.{all_on, all_stopped, all_ended}
 use Rattle.sound.proofs.registers.Given as goal
 
 abbrev pub invariant-loop-i : goal.invariant-loop-i
-invariant-loop-i l = (l.i ≤ 8) × (length l.sdids ≡ 8) × (scan_all (register_step board) l.initial.sdids l.sdids ≡ scan_all (register_step board) l.initial.i (drop l.i l.sdids))
+invariant-loop-i l = (l.i ≤ 8) × (length l.slots ≡ 8) × (scan_all (register_step board) l.initial.sdids l.slots ≡ scan_all (register_step board) l.sdids (drop l.i l.slots))
 
 abbrev pub decreases-loop-i : goal.decreases-loop-i
 decreases-loop-i l = 8 - l.i

@@ -38,7 +38,7 @@ pub returns-then-claim : goal.returns-then-claim
 unfolding root_step
 returns-then-claim c = let a = c.args in
     let F = frame_of a.f a.words.now in
-    let k = c.claim.new.1.1.1.0 in
+    let k = c.claim.new.free in
     let e : c.page_at-at.result + c.block_count-count.result - c.page_at-at.result ≡ c.block_count-count.result = omega arith in
     rw (← c.claim.ensures, c.if-claim.true)
     (c.gibs.ensures

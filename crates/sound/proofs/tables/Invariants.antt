@@ -11,8 +11,8 @@ use Rattle.scan.proofs.Loops.{all_on, all_stopped, all_ended}
 use Rattle.sound.proofs.tables.Given as goal
 
 abbrev pub invariant-loop-i : goal.invariant-loop-i
-invariant-loop-i l = (l.i ≤ 8) × (length l.free ≡ 8)
-    × (scan_all (slot_step (frame_of l.f l.words) l.words) l.initial.free l.free ≡ scan_all (slot_step (frame_of l.f l.words) l.words) l.initial.i (drop l.i l.free))
+invariant-loop-i l = (l.i ≤ 8) × (length l.slots ≡ 8)
+    × (scan_all (slot_step (frame_of l.f l.words) l.words) l.initial.free l.slots ≡ scan_all (slot_step (frame_of l.f l.words) l.words) l.free (drop l.i l.slots))
 
 abbrev pub decreases-loop-i : goal.decreases-loop-i
 decreases-loop-i l = 8 - l.i

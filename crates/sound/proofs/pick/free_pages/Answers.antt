@@ -13,7 +13,7 @@ use Rattle.scan.proofs.MarkedPages.{marked_from, marked_all, marked_none, marked
 use Rattle.sound.proofs.pick.free_pages.Goals as goal
 use Rattle.sound.proofs.pick.free_pages.Goals.{After-lowest-next, Else-pages-low, Else-pages-next, Start, Then-pages-next}
 
-abbrev pages_of : tie.Start → ℕ
+abbrev pages_of : (s : Start) → ℕ
 pages_of s = s.args.n / board.words
 
 few : (s : Start) → pages_of s ≤ 256
@@ -23,19 +23,29 @@ first-low : (s : Start) → s.args.f.first.0 ≤ 2 ^ 22
 first-low s = let h = bounds _ s.requires in omega (arith, h, few_pages _ h.paw_high_lem)
 
 -- the marked pages from place i on
-from : (s : Start) → ℕ → List ℕ
+abbrev from : (s : Start) → ℕ → List ℕ
 from s i = marked_from s.args.free.now s.args.f.first.0 (pages_of s) (pages_of s - i) i
 
 all : (s : Start) → marked_pages (frame_over s.args.f s.args.n) s.args.free.now ≡ from s 0
 unfolding marked_pages from
 all s = sym (marked_all _ _ _ _ _ (omega arith) (omega arith))
 
+abbrev pages_of-at-Else-pages-low : (s : Else-pages-low) → ℕ
+pages_of-at-Else-pages-low s = s.args.n / board.words
+
+-- the marked pages from-at-Else-pages-low place i on
+abbrev from-at-Else-pages-low : (s : Else-pages-low) → ℕ → List ℕ
+from-at-Else-pages-low s i = marked_from s.args.free.now s.args.f.first.0 (pages_of-at-Else-pages-low s) (pages_of-at-Else-pages-low s - i) i
+
+few-at-Else-pages-low : (s : Else-pages-low) → pages_of-at-Else-pages-low s ≤ 256
+few-at-Else-pages-low s = (bounds _ s.requires).most
+
 -- the lowest mark heads the list
-one : (c : Else-pages-low) → let r = c.lowest-low.result in from (goal.at.? c).Start 0 ≡ (c.args.f.first.0 + r) ∷ from (goal.at.? c).Start (r + 1)
+one : (c : Else-pages-low) → let r = c.lowest-low.result in from-at-Else-pages-low c 0 ≡ (c.args.f.first.0 + r) ∷ from-at-Else-pages-low c (r + 1)
 unfolding from
 one c =
     let r = c.lowest-low in
-    marked_next _ _ _ 0 r.result (λ x lo hi. r.ensures.below x hi) (omega arith) c.if-pages-low.false (r.ensures.is_marked (omega (arith, few (goal.at.? c).Start, c.if-pages-low.false)))
+    marked_next _ _ _ 0 r.result (λ x lo hi. r.ensures.below x hi) (omega arith) c.if-pages-low.false (r.ensures.is_marked (omega (arith, few-at-Else-pages-low c, c.if-pages-low.false)))
 
 -- the lowest of the others heads the rest, or there is no other: none lies between
 none_between : (c : After-lowest-next) → (x : ℕ) → c.lowest-low.result + 1 ≤ x → x < c.lowest-next.result → mark_at c.args.free.now x ≡ false
@@ -43,19 +53,48 @@ none_between c =
     let r = c.lowest-low in
     next_clear _ r.result r.ensures.below c.lowest-next.result (λ x h. subst (λ (k : Marks). mark_at k x ≡ false) c.take.ensures.1 (c.lowest-next.ensures.below x h))
 
+abbrev pages_of-at-Else-pages-next : (s : Else-pages-next) → ℕ
+pages_of-at-Else-pages-next s = s.args.n / board.words
+
+-- the marked pages from-at-Else-pages-next place i on
+abbrev from-at-Else-pages-next : (s : Else-pages-next) → ℕ → List ℕ
+from-at-Else-pages-next s i = marked_from s.args.free.now s.args.f.first.0 (pages_of-at-Else-pages-next s) (pages_of-at-Else-pages-next s - i) i
+
+few-at-Else-pages-next : (s : Else-pages-next) → pages_of-at-Else-pages-next s ≤ 256
+few-at-Else-pages-next s = (bounds _ s.requires).most
+
+-- the lowest of the others heads the rest, or there is no other: none lies between
+none_between-at-Else-pages-next : (c : Else-pages-next) → (x : ℕ) → c.lowest-low.result + 1 ≤ x → x < c.lowest-next.result → mark_at c.args.free.now x ≡ false
+none_between-at-Else-pages-next c =
+    let r = c.lowest-low in
+    next_clear _ r.result r.ensures.below c.lowest-next.result (λ x h. subst (λ (k : Marks). mark_at k x ≡ false) c.take.ensures.1 (c.lowest-next.ensures.below x h))
+
 two : (c : Else-pages-next) → let r = c.lowest-low.result in
-    from (goal.at.overflow_add-result-2 c).Start (r + 1) ≡ (c.args.f.first.0 + c.lowest-next.result) ∷ from (goal.at.overflow_add-result-2 c).Start (c.lowest-next.result + 1)
+    from-at-Else-pages-next c (r + 1) ≡ (c.args.f.first.0 + c.lowest-next.result) ∷ from-at-Else-pages-next c (c.lowest-next.result + 1)
 unfolding from
 two c =
     let r = c.lowest-low in
     let h = next_stands _ r.result r.ensures.below c.lowest-next.result
-    (subst (λ (m : Marks). mark_at m c.lowest-next.result ≡ true) c.take.ensures.1 (c.lowest-next.ensures.is_marked (omega (arith, few (goal.at.overflow_add-result-2 c).Start, c.if-pages-next.false)))) in
-    marked_next _ _ _ (r.result + 1) c.lowest-next.result (none_between (goal.at.overflow_add-result-2 c).After-lowest-next) h.0 c.if-pages-next.false h.1
+    (subst (λ (m : Marks). mark_at m c.lowest-next.result ≡ true) c.take.ensures.1 (c.lowest-next.ensures.is_marked (omega (arith, few-at-Else-pages-next c, c.if-pages-next.false)))) in
+    marked_next _ _ _ (r.result + 1) c.lowest-next.result (none_between-at-Else-pages-next c) h.0 c.if-pages-next.false h.1
 
-no_other : (c : Then-pages-next) → let r = c.lowest-low.result in from (goal.at.overflow_add-result c).Start (r + 1) ≡ []
+abbrev pages_of-at-Then-pages-next : (s : Then-pages-next) → ℕ
+pages_of-at-Then-pages-next s = s.args.n / board.words
+
+-- the marked pages from-at-Then-pages-next place i on
+abbrev from-at-Then-pages-next : (s : Then-pages-next) → ℕ → List ℕ
+from-at-Then-pages-next s i = marked_from s.args.free.now s.args.f.first.0 (pages_of-at-Then-pages-next s) (pages_of-at-Then-pages-next s - i) i
+
+-- the lowest of the others heads the rest, or there is no other: none lies between
+none_between-at-Then-pages-next : (c : Then-pages-next) → (x : ℕ) → c.lowest-low.result + 1 ≤ x → x < c.lowest-next.result → mark_at c.args.free.now x ≡ false
+none_between-at-Then-pages-next c =
+    let r = c.lowest-low in
+    next_clear _ r.result r.ensures.below c.lowest-next.result (λ x h. subst (λ (k : Marks). mark_at k x ≡ false) c.take.ensures.1 (c.lowest-next.ensures.below x h))
+
+no_other : (c : Then-pages-next) → let r = c.lowest-low.result in from-at-Then-pages-next c (r + 1) ≡ []
 unfolding from
 no_other c =
-    marked_none _ _ _ (c.lowest-low.result + 1) c.lowest-next.result (none_between (goal.at.overflow_add-result c).After-lowest-next) c.if-pages-next.true (omega (arith, c.if-pages-low.false))
+    marked_none _ _ _ (c.lowest-low.result + 1) c.lowest-next.result (none_between-at-Then-pages-next c) c.if-pages-next.true (omega (arith, c.if-pages-low.false))
 
 pub returns-then-pages-low : goal.returns-then-pages-low
 unfolding head_d from

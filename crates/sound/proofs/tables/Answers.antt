@@ -1,0 +1,23 @@
+-- `sound::tables` meets its contract: the invariant: the slots that are left, from the marks so far, decide the whole.
+use mathlib.Core.Path.{◌≡◌, refl, sym, ◌∙◌}
+use Prim.Native.Nat.{◌-◌, ◌≤◌, ◌<◌}
+use native.Mathlib.Omega.{arith}
+use lib.ListN.{length, drop}
+use borrow.Author.Rules.{rules}
+use borrow.Author.Tests.{not-true, not-false}
+use Rattle.table.specs.Board.{frame_of}
+use Rattle.scan.specs.Scan.{scan_all, slot_step}
+use Rattle.scan.proofs.Loops.{all_on, all_stopped, all_ended}
+use Rattle.sound.proofs.tables.Goals as goal
+
+pub returns-then-not-slot : goal.returns-then-not-slot
+returns-then-not-slot c = let h : c.loop-i.i < length c.args.slots = omega arith in
+    sym (c.loop-i.invariant.2 ∙ all_stopped _ _ _ _ h (rw c.if-not-slot.true at c.slot.ensures))
+
+pub loop-i-preserved : goal.loop-i-preserved
+loop-i-preserved c = let h : c.loop-i.i < length c.args.slots = omega arith in
+    (omega arith, omega arith, c.loop-i.invariant.2 ∙ all_on _ _ _ _ h (rw c.if-not-slot.false at c.slot.ensures))
+
+pub returns : goal.returns
+returns c = let h : length c.args.slots ≤ c.loop-i.i = omega arith in
+    sym (c.loop-i.invariant.2 ∙ all_ended _ _ _ _ h)
