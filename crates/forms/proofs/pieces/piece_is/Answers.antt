@@ -1,0 +1,18 @@
+-- `forms::pieces::piece_is` meets its contract: inside the range, outside it, and across an end.
+use mathlib.Core.Path.{◌≡◌, ap, ◌∙◌}
+use Prim.Native.Nat.{◌+◌, ◌-◌, ◌*◌}
+use native.Mathlib.Omega.{arith}
+use borrow.Author.Rules.{rules}
+use Rattle.table.specs.Board.{FIELDS, PIECE-PAGES, PIECE-WORDS, frame_of}
+use Rattle.forms.proofs.BoardShape.{board_shape}
+use Rattle.shapes.proofs.EntryLaws.{run_inside}
+use Rattle.model.specs.Forms.{all_are}
+use Rattle.types.specs.Views.{entry_of, request_of}
+use Rattle.forms.proofs.pieces.piece_is.Goals as goal
+
+pub returns-in-Inside : goal.returns-in-Inside
+returns-in-Inside c =
+    let a = c.args in
+    let pre = c.requires in
+    run_inside (frame_of a.edit.f a.words.now) board_shape a.words.now (request_of a.edit.q) pre.3.small (entry_of a.e) pre.4 a.p PIECE-PAGES (a.b * 8192 + a.i * PIECE-PAGES) (omega arith)
+    (rw c.in-Inside.is at c.lies.ensures)

@@ -1,0 +1,23 @@
+-- `slots::named::held` meets its contract: the invariant: the slots that are left decide whether one holds the SDID.
+use mathlib.Core.Path.{◌≡◌, refl, sym, ◌∙◌}
+use Prim.Native.Nat.{◌-◌, ◌≤◌, ◌<◌}
+use native.Mathlib.Omega.{arith}
+use lib.ListN.{length, drop}
+use borrow.Author.Rules.{rules}
+use Rattle.model.specs.Numbers.{member}
+use Rattle.table.specs.Board.{board}
+use Rattle.shapes.specs.Slots.{open_sdids}
+use Rattle.shapes.proofs.SlotLaws.{held_here, held_later, held_by_none}
+use Rattle.slots.proofs.named.held.Goals as goal
+
+pub returns-then-holds : goal.returns-then-holds
+returns-then-holds c = let h : c.loop-i.i < length c.args.slots = omega arith in
+    sym (c.loop-i.invariant.2 ∙ held_here board _ _ _ h (sym c.holds.ensures ∙ c.if-holds.true))
+
+pub loop-i-preserved : goal.loop-i-preserved
+loop-i-preserved c = let h : c.loop-i.i < length c.args.slots = omega arith in
+    (omega arith, omega arith, c.loop-i.invariant.2 ∙ held_later board _ _ _ h (sym c.holds.ensures ∙ c.if-holds.false))
+
+pub returns : goal.returns
+returns c = let h : length c.args.slots ≤ c.loop-i.i = omega arith in
+    sym (c.loop-i.invariant.2 ∙ held_by_none board _ _ _ h)

@@ -1,0 +1,16 @@
+-- `slots::zero::zero_page` meets its contract: the invariant: zeroing the words that are left gives the zeroed page.
+use mathlib.Core.Path.{◌≡◌, refl, sym, ap, ◌∙◌}
+use mathlib.Core.List.{List}
+use Prim.Native.Nat.{ℕ, ◌+◌, ◌-◌, ◌≤◌, ◌<◌}
+use native.Mathlib.Omega.{arith}
+use lib.ListN.{length, length-set}
+use Rattle.slots.specs.ZeroPage.{zeroed}
+use Rattle.slots.proofs.ZeroLoop.{left, left_all, left_next, left_none}
+use Rattle.table.specs.Board.{PAGE-WORDS}
+use Rattle.slots.proofs.zero.zero_page.Given as goal
+
+abbrev pub invariant-loop-i : goal.invariant-loop-i
+invariant-loop-i l = (l.i ≤ PAGE-WORDS) × (l.at + PAGE-WORDS ≤ length l.words) × (length l.words ≡ length l.initial.words) × (zeroed l.initial.words l.at ≡ left l.words l.at l.i)
+
+abbrev pub decreases-loop-i : goal.decreases-loop-i
+decreases-loop-i l = PAGE-WORDS - l.i
