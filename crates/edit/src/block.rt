@@ -28,10 +28,10 @@ use types::{BlocksProgress, Budget, Edit, Entry, Form, Free, Gib, NewPage, PageN
 
 // The L2 entry of block b, if it changes.
 fn put_entry(edit: Edit, words: &mut [Word], b: u64, word: Word, left: Budget) -> Progress
-    ghost ss: { List Store }
-    requires ss_value { ss ≡ if_changed_l2 (frame_of edit.f words.old) words.old edit.root.0 b word }
-    requires b_bound { (b < MAX-BLOCKS) × (lent (frame_of edit.f words.old) edit.root.0 ≡ true) × Ahead words.old ss }
-    ensures { out result.all result.left words.new ≡ run left ss words.old }
+    requires { let ss = if_changed_l2 (frame_of edit.f words.old) words.old edit.root.0 b word in
+        (b < MAX-BLOCKS) × (lent (frame_of edit.f words.old) edit.root.0 ≡ true) × Ahead words.old ss }
+    ensures { let ss = if_changed_l2 (frame_of edit.f words.old) words.old edit.root.0 b word in
+        out result.all result.left words.new ≡ run left ss words.old }
 {
     let at = page_at(edit.f, words, edit.root) + b as usize;
     put_changed(words, left, at, word)
@@ -46,11 +46,11 @@ fn store_table(
     new: PageNumber,
     left: Budget,
 ) -> Progress
-    ghost ss: { List Store }
-    requires ss_value { ss ≡ block_stores (frame_of edit.f words.old) words.old (request_of edit.q) edit.root.0 want_table (entry_of e) b new.0 }
-    requires b_bound { (b < MAX-BLOCKS) × Fair edit.q × Good (frame_of edit.f words.old) words.old (entry_of e) × (lent (frame_of edit.f words.old) edit.root.0 ≡ true)
+    requires { let ss = block_stores (frame_of edit.f words.old) words.old (request_of edit.q) edit.root.0 want_table (entry_of e) b new.0 in
+        (b < MAX-BLOCKS) × Fair edit.q × Good (frame_of edit.f words.old) words.old (entry_of e) × (lent (frame_of edit.f words.old) edit.root.0 ≡ true)
         × (needs_page want_table (entry_of e) ≡ true → (lent (frame_of edit.f words.old) new.0 ≡ true) × (new.0 < 2 ^ board.info_bits)) × Ahead words.old ss }
-    ensures { out result.all result.left words.new ≡ run left ss words.old }
+    ensures { let ss = block_stores (frame_of edit.f words.old) words.old (request_of edit.q) edit.root.0 want_table (entry_of e) b new.0 in
+        out result.all result.left words.new ≡ run left ss words.old }
 {
     if let Entry::Table(t) = e {
         return own_table(edit, words, t, b, left);
@@ -73,11 +73,11 @@ fn store_block(
     new: PageNumber,
     left: Budget,
 ) -> Progress
-    ghost ss: { List Store }
-    requires ss_value { ss ≡ block_stores (frame_of edit.f words.old) words.old (request_of edit.q) edit.root.0 (form_of form) (entry_of e) b new.0 }
-    requires b_bound { (b < MAX-BLOCKS) × Fair edit.q × Good (frame_of edit.f words.old) words.old (entry_of e) × (lent (frame_of edit.f words.old) edit.root.0 ≡ true)
+    requires { let ss = block_stores (frame_of edit.f words.old) words.old (request_of edit.q) edit.root.0 (form_of form) (entry_of e) b new.0 in
+        (b < MAX-BLOCKS) × Fair edit.q × Good (frame_of edit.f words.old) words.old (entry_of e) × (lent (frame_of edit.f words.old) edit.root.0 ≡ true)
         × (needs_page (form_of form) (entry_of e) ≡ true → (lent (frame_of edit.f words.old) new.0 ≡ true) × (new.0 < 2 ^ board.info_bits)) × Encodes board (form_of form) × Ahead words.old ss }
-    ensures { out result.all result.left words.new ≡ run left ss words.old }
+    ensures { let ss = block_stores (frame_of edit.f words.old) words.old (request_of edit.q) edit.root.0 (form_of form) (entry_of e) b new.0 in
+        out result.all result.left words.new ≡ run left ss words.old }
 {
     match form {
         Form::Flat(p) => put_entry(edit, words, b, narrow(p * TYPE_UNIT), left),

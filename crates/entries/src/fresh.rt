@@ -25,10 +25,10 @@ use types::{Budget, Edit, Entry, NewPage, Place, Progress, Request};
 
 // L1 entry i of block b, in the new page.
 fn new_entry(edit: Edit, words: &mut [Word], new: NewPage, i: u64, left: Budget) -> Progress
-    ghost ss: { List Store }
-    requires ss_value { ss ≡ (store_at (frame_of edit.f words.old) new.page.0 i (l1_word (frame_of edit.f words.old) words.old (request_of edit.q) (entry_of new.e) new.b i) ∷ []) }
-    requires b_bound { (new.b < MAX-BLOCKS) × (i < PAGE-WORDS) × Fair edit.q × Good (frame_of edit.f words.old) words.old (entry_of new.e) × (lent (frame_of edit.f words.old) new.page.0 ≡ true) × Ahead words.old ss }
-    ensures { out result.all result.left words.new ≡ run left ss words.old }
+    requires { let ss = store_at (frame_of edit.f words.old) new.page.0 i (l1_word (frame_of edit.f words.old) words.old (request_of edit.q) (entry_of new.e) new.b i) ∷ [] in
+        (new.b < MAX-BLOCKS) × (i < PAGE-WORDS) × Fair edit.q × Good (frame_of edit.f words.old) words.old (entry_of new.e) × (lent (frame_of edit.f words.old) new.page.0 ≡ true) × Ahead words.old ss }
+    ensures { let ss = store_at (frame_of edit.f words.old) new.page.0 i (l1_word (frame_of edit.f words.old) words.old (request_of edit.q) (entry_of new.e) new.b i) ∷ [] in
+        out result.all result.left words.new ≡ run left ss words.old }
 {
     let e = new.e;
     let at = page_at(edit.f, words, new.page) + i as usize;
@@ -45,10 +45,10 @@ fn new_entries(
     to: u64,
     left: Budget,
 ) -> Progress
-    ghost ss: { List Store }
-    requires ss_value { ss ≡ new_run (frame_of edit.f words.old) words.old (request_of edit.q) (entry_of new.e) new.b new.page.0 (to - from) from }
-    requires b_bound { (new.b < MAX-BLOCKS) × (to ≤ PAGE-WORDS) × (from ≤ to) × Fair edit.q × Good (frame_of edit.f words.old) words.old (entry_of new.e) × (lent (frame_of edit.f words.old) new.page.0 ≡ true) × Plain (entry_of new.e) × Ahead words.old ss }
-    ensures { out result.all result.left words.new ≡ run left ss words.old }
+    requires { let ss = new_run (frame_of edit.f words.old) words.old (request_of edit.q) (entry_of new.e) new.b new.page.0 (to - from) from in
+        (new.b < MAX-BLOCKS) × (to ≤ PAGE-WORDS) × (from ≤ to) × Fair edit.q × Good (frame_of edit.f words.old) words.old (entry_of new.e) × (lent (frame_of edit.f words.old) new.page.0 ≡ true) × Plain (entry_of new.e) × Ahead words.old ss }
+    ensures { let ss = new_run (frame_of edit.f words.old) words.old (request_of edit.q) (entry_of new.e) new.b new.page.0 (to - from) from in
+        out result.all result.left words.new ≡ run left ss words.old }
 {
     let mut more = left;
     for i in from..to {
@@ -88,11 +88,11 @@ fn old_fill(
     to: u64,
     left: Budget,
 ) -> Progress
-    ghost ss: { List Store }
-    requires ss_value { ss ≡ new_run (frame_of edit.f words.old) words.old (request_of edit.q) (entry_of new.e) new.b new.page.0 (to - from) from }
-    requires b_bound { (new.b < MAX-BLOCKS) × (to ≤ PAGE-WORDS) × (from < to) × Fair edit.q × Good (frame_of edit.f words.old) words.old (entry_of new.e) × (lent (frame_of edit.f words.old) new.page.0 ≡ true) × Plain (entry_of new.e)
+    requires { let ss = new_run (frame_of edit.f words.old) words.old (request_of edit.q) (entry_of new.e) new.b new.page.0 (to - from) from in
+        (new.b < MAX-BLOCKS) × (to ≤ PAGE-WORDS) × (from < to) × Fair edit.q × Good (frame_of edit.f words.old) words.old (entry_of new.e) × (lent (frame_of edit.f words.old) new.page.0 ≡ true) × Plain (entry_of new.e)
         × Lies (request_of edit.q) (new.b * block_pages + from * FIELDS) ((to - from) * FIELDS) Place.Outside × ((k : ℕ) → from ≤ k → k < to → old_word (frame_of edit.f words.old) words.old (entry_of new.e) k ≡ old_word (frame_of edit.f words.old) words.old (entry_of new.e) from) × Ahead words.old ss }
-    ensures { out result.all result.left words.new ≡ run left ss words.old }
+    ensures { let ss = new_run (frame_of edit.f words.old) words.old (request_of edit.q) (entry_of new.e) new.b new.page.0 (to - from) from in
+        out result.all result.left words.new ≡ run left ss words.old }
 {
     let n = to - from;
     if left.more < n {
@@ -117,11 +117,11 @@ fn old_entries(
     to: u64,
     left: Budget,
 ) -> Progress
-    ghost ss: { List Store }
-    requires ss_value { ss ≡ new_run (frame_of edit.f words.old) words.old (request_of edit.q) (entry_of new.e) new.b new.page.0 (to - from) from }
-    requires b_bound { (new.b < MAX-BLOCKS) × (to ≤ PAGE-WORDS) × (from ≤ to) × Fair edit.q × Good (frame_of edit.f words.old) words.old (entry_of new.e) × (lent (frame_of edit.f words.old) new.page.0 ≡ true) × Plain (entry_of new.e)
+    requires { let ss = new_run (frame_of edit.f words.old) words.old (request_of edit.q) (entry_of new.e) new.b new.page.0 (to - from) from in
+        (new.b < MAX-BLOCKS) × (to ≤ PAGE-WORDS) × (from ≤ to) × Fair edit.q × Good (frame_of edit.f words.old) words.old (entry_of new.e) × (lent (frame_of edit.f words.old) new.page.0 ≡ true) × Plain (entry_of new.e)
         × Lies (request_of edit.q) (new.b * block_pages + from * FIELDS) ((to - from) * FIELDS) Place.Outside × Ahead words.old ss }
-    ensures { out result.all result.left words.new ≡ run left ss words.old }
+    ensures { let ss = new_run (frame_of edit.f words.old) words.old (request_of edit.q) (entry_of new.e) new.b new.page.0 (to - from) from in
+        out result.all result.left words.new ≡ run left ss words.old }
 {
     let e = new.e;
     let mut more = left;
@@ -156,10 +156,10 @@ fn near_end(q: Request, b: u64, from: u64) -> u64
 
 // All entries of a new page, in order: those below the range, those that it can meet, and those above.
 pub fn fill_page(edit: Edit, words: &mut [Word], new: NewPage, left: Budget) -> Progress
-    ghost ss: { List Store }
-    requires ss_value { ss ≡ new_table (frame_of edit.f words.old) words.old (request_of edit.q) (entry_of new.e) new.b new.page.0 }
-    requires b_bound { (new.b < MAX-BLOCKS) × Fair edit.q × Good (frame_of edit.f words.old) words.old (entry_of new.e) × (lent (frame_of edit.f words.old) new.page.0 ≡ true) × Plain (entry_of new.e) × Ahead words.old ss }
-    ensures { out result.all result.left words.new ≡ run left ss words.old }
+    requires { let ss = new_table (frame_of edit.f words.old) words.old (request_of edit.q) (entry_of new.e) new.b new.page.0 in
+        (new.b < MAX-BLOCKS) × Fair edit.q × Good (frame_of edit.f words.old) words.old (entry_of new.e) × (lent (frame_of edit.f words.old) new.page.0 ≡ true) × Plain (entry_of new.e) × Ahead words.old ss }
+    ensures { let ss = new_table (frame_of edit.f words.old) words.old (request_of edit.q) (entry_of new.e) new.b new.page.0 in
+        out result.all result.left words.new ≡ run left ss words.old }
 {
     let from = first_entry(edit.q, new.b);
     let to = near_end(edit.q, new.b, from);

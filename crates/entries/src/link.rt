@@ -19,10 +19,10 @@ use types::{Budget, Edit, NewPage, Progress};
 
 // The L2 entry of the block that names the page.
 fn link_page(edit: Edit, words: &mut [Word], new: NewPage, left: Budget) -> Progress
-    ghost ss: { List Store }
-    requires ss_value { ss ≡ (store_l2 (frame_of edit.f words.old) edit.root.0 new.b (encode board (table new.page.0)) ∷ []) }
-    requires b_bound { (new.b < MAX-BLOCKS) × (lent (frame_of edit.f words.old) edit.root.0 ≡ true) × (new.page.0 < 2 ^ board.info_bits) × Ahead words.old ss }
-    ensures { out result.all result.left words.new ≡ run left ss words.old }
+    requires { let ss = store_l2 (frame_of edit.f words.old) edit.root.0 new.b (encode board (table new.page.0)) ∷ [] in
+        (new.b < MAX-BLOCKS) × (lent (frame_of edit.f words.old) edit.root.0 ≡ true) × (new.page.0 < 2 ^ board.info_bits) × Ahead words.old ss }
+    ensures { let ss = store_l2 (frame_of edit.f words.old) edit.root.0 new.b (encode board (table new.page.0)) ∷ [] in
+        out result.all result.left words.new ≡ run left ss words.old }
 {
     let at = page_at(edit.f, words, edit.root) + new.b as usize;
     put(words, left, at, narrow(TABLE_ENTRY + new.page.0))
@@ -30,11 +30,11 @@ fn link_page(edit: Edit, words: &mut [Word], new: NewPage, left: Budget) -> Prog
 
 // A new page, and then the L2 entry that names it.
 pub fn link_table(edit: Edit, words: &mut [Word], new: NewPage, left: Budget) -> Progress
-    ghost ss: { List Store }
-    requires ss_value { ss ≡ link_table (frame_of edit.f words.old) words.old (request_of edit.q) edit.root.0 (entry_of new.e) new.b new.page.0 }
-    requires b_bound { (new.b < MAX-BLOCKS) × Fair edit.q × Good (frame_of edit.f words.old) words.old (entry_of new.e) × (lent (frame_of edit.f words.old) new.page.0 ≡ true) × Plain (entry_of new.e)
+    requires { let ss = link_table (frame_of edit.f words.old) words.old (request_of edit.q) edit.root.0 (entry_of new.e) new.b new.page.0 in
+        (new.b < MAX-BLOCKS) × Fair edit.q × Good (frame_of edit.f words.old) words.old (entry_of new.e) × (lent (frame_of edit.f words.old) new.page.0 ≡ true) × Plain (entry_of new.e)
         × (lent (frame_of edit.f words.old) edit.root.0 ≡ true) × (new.page.0 < 2 ^ board.info_bits) × Ahead words.old ss }
-    ensures { out result.all result.left words.new ≡ run left ss words.old }
+    ensures { let ss = link_table (frame_of edit.f words.old) words.old (request_of edit.q) edit.root.0 (entry_of new.e) new.b new.page.0 in
+        out result.all result.left words.new ≡ run left ss words.old }
 {
     let first = fresh::fill_page(edit, words, new, left);
     if !first.all {

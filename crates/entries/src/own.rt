@@ -27,10 +27,10 @@ fn same_entry(
     i: u64,
     left: Budget,
 ) -> Progress
-    ghost ss: { List Store }
-    requires ss_value { ss ≡ if_changed (frame_of edit.f words.old) words.old t.0 i (l1_word (frame_of edit.f words.old) words.old (request_of edit.q) (entry.table t.0) b i) }
-    requires b_bound { (b < MAX-BLOCKS) × (i < PAGE-WORDS) × Fair edit.q × Good (frame_of edit.f words.old) words.old (entry.table t.0) × Ahead words.old ss }
-    ensures { out result.all result.left words.new ≡ run left ss words.old }
+    requires { let ss = if_changed (frame_of edit.f words.old) words.old t.0 i (l1_word (frame_of edit.f words.old) words.old (request_of edit.q) (entry.table t.0) b i) in
+        (b < MAX-BLOCKS) × (i < PAGE-WORDS) × Fair edit.q × Good (frame_of edit.f words.old) words.old (entry.table t.0) × Ahead words.old ss }
+    ensures { let ss = if_changed (frame_of edit.f words.old) words.old t.0 i (l1_word (frame_of edit.f words.old) words.old (request_of edit.q) (entry.table t.0) b i) in
+        out result.all result.left words.new ≡ run left ss words.old }
 {
     let at = page_at(edit.f, words, t) + i as usize;
     let word = after_word(edit, words, Entry::Table(t), b, i);
@@ -39,10 +39,10 @@ fn same_entry(
 
 // Those L1 entries of block b that change, in order, in the block's own page t. Entries that lie outside the range stay: they are not read.
 fn same_table(edit: Edit, words: &mut [Word], t: PageNumber, b: u64, left: Budget) -> Progress
-    ghost ss: { List Store }
-    requires ss_value { ss ≡ same_table (frame_of edit.f words.old) words.old (request_of edit.q) (entry.table t.0) b t.0 }
-    requires b_bound { (b < MAX-BLOCKS) × Fair edit.q × Good (frame_of edit.f words.old) words.old (entry.table t.0) × Ahead words.old ss }
-    ensures { out result.all result.left words.new ≡ run left ss words.old }
+    requires { let ss = same_table (frame_of edit.f words.old) words.old (request_of edit.q) (entry.table t.0) b t.0 in
+        (b < MAX-BLOCKS) × Fair edit.q × Good (frame_of edit.f words.old) words.old (entry.table t.0) × Ahead words.old ss }
+    ensures { let ss = same_table (frame_of edit.f words.old) words.old (request_of edit.q) (entry.table t.0) b t.0 in
+        out result.all result.left words.new ≡ run left ss words.old }
 {
     let from = first_entry(edit.q, b);
     let to = past_entry(edit.q, b);
@@ -63,10 +63,10 @@ fn same_table(edit: Edit, words: &mut [Word], t: PageNumber, b: u64, left: Budge
 
 // The same; outside the range no entry changes.
 pub fn own_table(edit: Edit, words: &mut [Word], t: PageNumber, b: u64, left: Budget) -> Progress
-    ghost ss: { List Store }
-    requires ss_value { ss ≡ same_table (frame_of edit.f words.old) words.old (request_of edit.q) (entry.table t.0) b t.0 }
-    requires b_bound { (b < MAX-BLOCKS) × Fair edit.q × Good (frame_of edit.f words.old) words.old (entry.table t.0) × Ahead words.old ss }
-    ensures { out result.all result.left words.new ≡ run left ss words.old }
+    requires { let ss = same_table (frame_of edit.f words.old) words.old (request_of edit.q) (entry.table t.0) b t.0 in
+        (b < MAX-BLOCKS) × Fair edit.q × Good (frame_of edit.f words.old) words.old (entry.table t.0) × Ahead words.old ss }
+    ensures { let ss = same_table (frame_of edit.f words.old) words.old (request_of edit.q) (entry.table t.0) b t.0 in
+        out result.all result.left words.new ≡ run left ss words.old }
 {
     match lies(edit.q, b * BLOCK_PAGES, BLOCK_PAGES) {
         Place::Outside => Progress {

@@ -12,10 +12,10 @@ use types::{Budget, Progress};
 
 // One store, where one more may be made: the next of an edit's list. Every store of an edit is made here.
 pub fn put_next(words: &mut [Word], left: Budget, at: usize, word: Word) -> Budget
-    ghost ss: { List Store }
-    requires ss_value { ss ≡ (store_of at word ∷ []) }
-    requires at_in_bounds { (at < length words.old) × (0 < left.more) × Ahead words.old ss }
-    ensures { (all_made result words.new ≡ run left ss words.old) × NextStore words.old ss words.new }
+    requires { let ss = store_of at word ∷ [] in
+        (at < length words.old) × (0 < left.more) × Ahead words.old ss }
+    ensures { let ss = store_of at word ∷ [] in
+        (all_made result words.new ≡ run left ss words.old) × NextStore words.old ss words.new }
 {
     store_word(words, at, word);
     let more = left.more;
@@ -27,10 +27,10 @@ pub fn put_next(words: &mut [Word], left: Budget, at: usize, word: Word) -> Budg
 
 // One store, if one more may be made.
 pub fn put(words: &mut [Word], left: Budget, at: usize, word: Word) -> Progress
-    ghost ss: { List Store }
-    requires ss_value { ss ≡ (store_of at word ∷ []) }
-    requires at_in_bounds { (at < length words.old) × Ahead words.old ss }
-    ensures { out result.all result.left words.new ≡ run left ss words.old }
+    requires { let ss = store_of at word ∷ [] in
+        (at < length words.old) × Ahead words.old ss }
+    ensures { let ss = store_of at word ∷ [] in
+        out result.all result.left words.new ≡ run left ss words.old }
 {
     if left.more == 0 {
         return Progress {
@@ -47,10 +47,10 @@ pub fn put(words: &mut [Word], left: Budget, at: usize, word: Word) -> Progress
 
 // A store, if it changes the word.
 pub fn put_changed(words: &mut [Word], left: Budget, at: usize, word: Word) -> Progress
-    ghost ss: { List Store }
-    requires ss_value { ss ≡ (if eqb (get_or words.old at 0) word then [] else store_of at word ∷ []) }
-    requires at_in_bounds { (at < length words.old) × Ahead words.old ss }
-    ensures { out result.all result.left words.new ≡ run left ss words.old }
+    requires { let ss = if eqb (get_or words.old at 0) word then [] else store_of at word ∷ [] in
+        (at < length words.old) × Ahead words.old ss }
+    ensures { let ss = if eqb (get_or words.old at 0) word then [] else store_of at word ∷ [] in
+        out result.all result.left words.new ≡ run left ss words.old }
 {
     if words[at] == word {
         return Progress {

@@ -16,10 +16,10 @@ use types::{Budget, Entry, Progress, RowProgress};
 
 // The n words from at, where as many stores may be made: nothing is asked between them.
 pub fn fill(words: &mut [Word], at: usize, n: usize, word: Word, left: Budget) -> Budget
-    ghost ss: { List Store }
-    requires ss_value { ss ≡ fill_stores word n at }
-    requires n_in_bounds { (at + n ≤ length words.old) × (n ≤ left.more) × Ahead words.old ss }
-    ensures { all_made result words.new ≡ run left ss words.old }
+    requires { let ss = fill_stores word n at in
+        (at + n ≤ length words.old) × (n ≤ left.more) × Ahead words.old ss }
+    ensures { let ss = fill_stores word n at in
+        all_made result words.new ≡ run left ss words.old }
 {
     let mut rest = left;
     for i in 0..n {
@@ -42,10 +42,10 @@ fn all_differ(words: &[Word], at: usize, word: Word) -> bool
 
 // The n words from at are all to be this word.
 fn flat_row(words: &mut [Word], at: usize, n: usize, word: Word, left: Budget) -> Progress
-    ghost ss: { List Store }
-    requires ss_value { ss ≡ row_stores words.old (λ w. word) n at }
-    requires n_in_bounds { (at + n ≤ length words.old) × Ahead words.old ss }
-    ensures { out result.all result.left words.new ≡ run left ss words.old }
+    requires { let ss = row_stores words.old (λ w. word) n at in
+        (at + n ≤ length words.old) × Ahead words.old ss }
+    ensures { let ss = row_stores words.old (λ w. word) n at in
+        out result.all result.left words.new ≡ run left ss words.old }
 {
     let mut more = left;
     for i in 0..n {
@@ -64,10 +64,10 @@ fn flat_row(words: &mut [Word], at: usize, n: usize, word: Word, left: Budget) -
 
 // The same. The entries of a GiB, where all change and the limit allows for them, are filled.
 pub fn flat_entries(words: &mut [Word], at: usize, n: usize, word: Word, left: Budget) -> Progress
-    ghost ss: { List Store }
-    requires ss_value { ss ≡ row_stores words.old (λ w. word) n at }
-    requires n_in_bounds { (at + n ≤ length words.old) × Ahead words.old ss }
-    ensures { out result.all result.left words.new ≡ run left ss words.old }
+    requires { let ss = row_stores words.old (λ w. word) n at in
+        (at + n ≤ length words.old) × Ahead words.old ss }
+    ensures { let ss = row_stores words.old (λ w. word) n at in
+        out result.all result.left words.new ≡ run left ss words.old }
 {
     if n != GIB_BLOCKS as usize {
         return flat_row(words, at, n, word, left);

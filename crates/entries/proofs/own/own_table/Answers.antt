@@ -1,0 +1,12 @@
+-- `entries::own::own_table` meets its contract: outside the range no entry changes, so there is nothing to store.
+use native.Mathlib.Omega.{arith}
+use borrow.Author.Rules.{rules}
+use Rattle.forms.proofs.BoardShape.{board_shape}
+use Rattle.shapes.proofs.OwnPage.{own_none}
+use Rattle.entries.proofs.own.own_table.Goals as goal
+
+pub returns-in-Outside : goal.returns-in-Outside
+returns-in-Outside c =
+    let a = c.args in
+    own_none (record { shape = board_shape; long = omega arith; typed = λ j. omega (arith, c.slice_known-1.given j); low = c.requires.1.small; good = c.requires.2 }) a.b
+    (rw c.in-Outside.is at c.lies.ensures) a.left

@@ -1,0 +1,8 @@
+-- `entries::put::put` meets its contract: no store is left, or the next one is made.
+use mathlib.Core.Path.{sym}
+use borrow.Author.Rules.{rules}
+use Rattle.shapes.proofs.RunLaws.{run_cut}
+use Rattle.entries.proofs.put.put.Goals as goal
+
+pub returns-then-left-eq0 : goal.returns-then-left-eq0
+returns-then-left-eq0 c = sym (run_cut _ _ _ _ c.if-left-eq0.true)

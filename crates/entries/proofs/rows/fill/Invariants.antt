@@ -1,0 +1,17 @@
+-- `entries::rows::fill` meets its contract: the loop keeps `Filled`: so many stores of the row are made, in order.
+use mathlib.Core.Path.{◌≡◌, ap, ◌∙◌}
+use mathlib.Core.List.{[], ◌∷◌}
+use Prim.Native.Nat.{ℕ, ◌-◌, ◌≤◌}
+use native.Mathlib.Omega.{arith}
+use Rattle.shapes.proofs.Order.{ahead_joined}
+use Rattle.shapes.proofs.RowLaws.{Filled, fill_start, fill_next}
+use Rattle.table.specs.Stored.{store_of}
+use Rattle.shapes.specs.Run.{run}
+use Rattle.shapes.specs.Rows.{fill_stores}
+use Rattle.entries.proofs.rows.fill.Given as goal
+
+abbrev pub invariant-loop-i : goal.invariant-loop-i
+invariant-loop-i l = (l.i ≤ l.n) × Filled l.word l.initial.words l.initial.rest l.at l.words l.rest l.i
+
+abbrev pub decreases-loop-i : goal.decreases-loop-i
+decreases-loop-i l = l.n - l.i
