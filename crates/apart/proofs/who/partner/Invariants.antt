@@ -1,0 +1,27 @@
+-- `apart::who::partner` meets its contract: the invariant: no slot passed shares the page so.
+use mathlib.Core.Path.{◌≡◌, refl, sym, ap₂, ◌∙◌}
+use mathlib.Core.Bool.{Bool}
+use mathlib.Core.List.{List}
+use Prim.Native.Nat.{ℕ, ◌+◌, ◌-◌, ◌≤◌, ◌<◌}
+use native.Mathlib.Omega.{arith}
+use borrow.Author.Rules.{rules}
+use borrow.Author.Tests.{lt-ltb, le-ltb}
+use Rattle.model.specs.Apart.{Strength, pair_fault}
+use Rattle.model.specs.Calls.{slot_at}
+use Rattle.model.specs.Frame.{Frame}
+use Rattle.model.specs.Sound.{Slot}
+use Rattle.sharing.specs.Faults.{some, meet}
+use Rattle.sharing.proofs.PairFaults.{pair_meets}
+use Rattle.sharing.proofs.FirstLaws.{NoneOf, none_at_all, found_next, none_one}
+use Rattle.table.specs.Board.{frame_of}
+use Rattle.types.specs.Views.{strength_of}
+use Rattle.apart.proofs.who.partner.Given as goal
+
+abbrev pub test : Frame → List ℕ → List Slot → Strength → ℕ → ℕ → ℕ → Bool
+test F m slots s page i j = some (pair_fault F m slots s page i j)
+
+abbrev pub invariant-loop-j : goal.invariant-loop-j
+invariant-loop-j l = (l.i < l.j) × (l.j ≤ 8) × NoneOf (test (frame_of l.f l.words) l.words l.slots (strength_of l.s) l.page.0 l.i) 0 l.j
+
+abbrev pub decreases-loop-j : goal.decreases-loop-j
+decreases-loop-j l = 8 - l.j

@@ -1,0 +1,28 @@
+-- `apart::who::table_fault` meets its contract: the first slot that reaches the page, if there is one.
+use mathlib.Core.Path.{sym, ap, ◌∙◌}
+use mathlib.Core.List.{List, head_d}
+use Prim.Native.Nat.{ℕ}
+use borrow.Author.Rules.{rules}
+use Rattle.model.specs.Access.{write}
+use Rattle.model.specs.Apart.{Separation, apart, table_open, grants}
+use Rattle.model.specs.Calls.{slot_at}
+use Rattle.model.specs.Entry.{perm}
+use Rattle.sharing.proofs.TableFaults.{table_some, table_none}
+use Rattle.table.specs.Board.{frame_of}
+use Rattle.types.specs.Views.{strength_of}
+use Rattle.apart.proofs.who.table_fault.Goals as goal
+
+pub returns-then-i-lt8 : goal.returns-then-i-lt8
+unfolding slot_at
+returns-then-i-lt8 c =
+    let a = c.args in
+    let F = frame_of a.f a.words.now in
+    ap (table_open a.page.0 c.reached_by-i.result) (c.writes.ensures ∙ ap (λ (p : ℕ). grants (perm p) write) c.has.ensures)
+    ∙ sym (table_some F a.words.now a.t3 (strength_of a.s) a.page.0 c.requires.1 c.reached_by-i.result c.reached_by-i.ensures c.if-i-lt8.true).1
+
+pub returns : goal.returns
+unfolding head_d
+returns c =
+    let a = c.args in
+    let F = frame_of a.f a.words.now in
+    sym (ap (λ (l : List Separation). head_d l apart) (table_none F a.words.now a.t3 (strength_of a.s) a.page.0 c.requires.1 c.reached_by-i.result c.reached_by-i.ensures c.if-i-lt8.false))

@@ -1,0 +1,27 @@
+-- `edit::block::store_block` meets its contract: the finished form says which stores there are: that of the entry, if it changes, or those of the
+-- L1 page.
+use Prim.Native.Nat.{◌<◌}
+use native.Mathlib.Omega.{arith}
+use borrow.Author.Rules.{rules}
+use Rattle.model.specs.Entry.{encode}
+use Rattle.model.specs.Stores.{block_stores}
+use Rattle.table.specs.Board.{PIECE-INFO}
+use Rattle.edit.proofs.block.store_block.Goals as goal
+
+pub put_entry-requires : goal.put_entry-requires
+unfolding block_stores encode
+put_entry-requires c =
+    (c.requires.0, c.requires.3, rw c.narrow.ensures (rw c.in-Flat.is at c.requires.6))
+
+pub put_entry-requires-in-Pieces : goal.put_entry-requires-in-Pieces
+unfolding block_stores encode
+put_entry-requires-in-Pieces c =
+    (c.requires.0, c.requires.3, rw c.narrow-in-Pieces.ensures (rw c.in-Pieces.is at c.requires.6))
+
+pub returns-in-Flat : goal.returns-in-Flat
+unfolding block_stores encode
+returns-in-Flat c = rw c.in-Flat.is (rw c.narrow.ensures at c.put_entry.ensures)
+
+pub returns-in-Pieces : goal.returns-in-Pieces
+unfolding block_stores encode
+returns-in-Pieces c = rw c.in-Pieces.is (rw c.narrow-in-Pieces.ensures at c.put_entry-in-Pieces.ensures)
