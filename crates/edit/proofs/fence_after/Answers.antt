@@ -19,12 +19,12 @@ returns-then-count-ne1 c = rw (ne_eqb _ 0 c.if-count-eq0.false, eq-eqb _ 4096 c.
 
 pub returns-then-not-all : goal.returns-then-not-all
 unfolding fence_after
-returns-then-not-all c = rw (ne_eqb _ 0 c.if-count-eq0.false, eq-eqb _ 4096 c.if-edit-ne-PAGE_BYTES.false, eq-eqb _ 1 c.if-count-ne1.false, not-true c.args.all c.if-not-all.true)
+returns-then-not-all c = rw (ne_eqb _ 0 c.if-count-eq0.false, eq-eqb _ 4096 c.if-edit-ne-PAGE_BYTES.false, eq-eqb _ 1 c.if-count-ne1.false, c.if-not-all.true)
 
 pub returns-then-in_root : goal.returns-then-in_root
 unfolding fence_after
-returns-then-in_root c = rw (ne_eqb _ 0 c.if-count-eq0.false, eq-eqb _ 4096 c.if-edit-ne-PAGE_BYTES.false, eq-eqb _ 1 c.if-count-ne1.false, not-false c.args.all c.if-not-all.false, sym c.in_root.ensures ∙ c.if-in_root.true)
+returns-then-in_root c = rw (ne_eqb _ 0 c.if-count-eq0.false, eq-eqb _ 4096 c.if-edit-ne-PAGE_BYTES.false, eq-eqb _ 1 c.if-count-ne1.false, c.if-not-all.false, sym c.in_root.ensures ∙ c.if-in_root.true)
 
 pub returns : goal.returns
 unfolding fence_after
-returns c = rw (ne_eqb _ 0 c.if-count-eq0.false, eq-eqb _ 4096 c.if-edit-ne-PAGE_BYTES.false, eq-eqb _ 1 c.if-count-ne1.false, not-false c.args.all c.if-not-all.false, sym c.in_root.ensures ∙ c.if-in_root.false)
+returns c = rw (ne_eqb _ 0 c.if-count-eq0.false, eq-eqb _ 4096 c.if-edit-ne-PAGE_BYTES.false, eq-eqb _ 1 c.if-count-ne1.false, c.if-not-all.false, sym c.in_root.ensures ∙ c.if-in_root.false)

@@ -19,9 +19,9 @@ use Rattle.table.specs.Board.{frame_of, frame_over}
 use Rattle.edit.proofs.make.Goals as goal
 use Rattle.edit.proofs.make.Goals.{After-struct_known-1, Else-all}
 
-all_made : (c : After-struct_known-1) → let a = c.args in let r = c.store_range-progress in
+makes_all : (c : After-struct_known-1) → let a = c.args in let r = c.store_range-progress in
     run (record { more = a.limit; last = 0 }) (whole_list (frame_of a.edit.f a.words.now) a.words.now (request_of a.edit.q) a.edit.root.0 (free_list a.free)) a.words.now ≡ all_made r.result.left r.new.words
-all_made c =
+makes_all c =
     let r = c.store_range-progress in
     sym r.ensures ∙ out_whole r.result.all r.result.left r.new.words c.if-all.true
 
@@ -35,7 +35,7 @@ pub overflow_sub-count : goal.overflow_sub-count
 overflow_sub-count c =
     let a = c.args in
     let r = c.store_range-progress in
-    omega (arith, all_fits (frame_of a.edit.f a.words.now) (request_of a.edit.q) a.edit.root.0 a.sdid.0 (whole_list (frame_of a.edit.f a.words.now) a.words.now (request_of a.edit.q) a.edit.root.0 (free_list a.free)) a.limit a.words.now r.result.left r.new.words (all_made c))
+    omega (arith, all_fits (frame_of a.edit.f a.words.now) (request_of a.edit.q) a.edit.root.0 a.sdid.0 (whole_list (frame_of a.edit.f a.words.now) a.words.now (request_of a.edit.q) a.edit.root.0 (free_list a.free)) a.limit a.words.now r.result.left r.new.words (makes_all c))
 
 pub fence_after-fence-requires : goal.fence_after-fence-requires
 fence_after-fence-requires c =
@@ -53,12 +53,12 @@ returns-then-all c =
     let F = frame_of a.edit.f a.words.now in
     let list : List Store = whole_list (frame_of a.edit.f a.words.now) a.words.now (request_of a.edit.q) a.edit.root.0 (free_list a.free) in
     record {
-      memory = all_memory F (request_of a.edit.q) a.edit.root.0 a.sdid.0 list a.limit a.words.now r.result.left r.new.words (all_made (goal.at.returns-then-all c).After-struct_known-1);
-      count = all_count F (request_of a.edit.q) a.edit.root.0 a.sdid.0 list a.limit a.words.now r.result.left r.new.words (all_made (goal.at.returns-then-all c).After-struct_known-1);
-      all = all_true F (request_of a.edit.q) a.edit.root.0 a.sdid.0 list a.limit a.words.now r.result.left r.new.words (all_made (goal.at.returns-then-all c).After-struct_known-1);
+      memory = all_memory F (request_of a.edit.q) a.edit.root.0 a.sdid.0 list a.limit a.words.now r.result.left r.new.words (makes_all (goal.at.returns-then-all c).After-struct_known-1);
+      count = all_count F (request_of a.edit.q) a.edit.root.0 a.sdid.0 list a.limit a.words.now r.result.left r.new.words (makes_all (goal.at.returns-then-all c).After-struct_known-1);
+      all = all_true F (request_of a.edit.q) a.edit.root.0 a.sdid.0 list a.limit a.words.now r.result.left r.new.words (makes_all (goal.at.returns-then-all c).After-struct_known-1);
       fence =
           subst (λ (X : Frame). fence_of c.fence_after-fence.result ≡ fence_after X (request_of a.edit.q) a.edit.root.0 a.sdid.0 (a.limit - r.result.left.more) true r.result.left.last) (ap (frame_over a.edit.f) r.auto.words) c.fence_after-fence.ensures
-          ∙ all_fence F (request_of a.edit.q) a.edit.root.0 a.sdid.0 list a.limit a.words.now r.result.left r.new.words (all_made (goal.at.returns-then-all c).After-struct_known-1);
+          ∙ all_fence F (request_of a.edit.q) a.edit.root.0 a.sdid.0 list a.limit a.words.now r.result.left r.new.words (makes_all (goal.at.returns-then-all c).After-struct_known-1);
     }
 
 pub fence_after-fence-requires-2 : goal.fence_after-fence-requires-2

@@ -16,7 +16,7 @@ use Rattle.apart.proofs.crowd.gather.Given as goal
 
 abbrev pub invariant-loop-i : goal.invariant-loop-i
 invariant-loop-i l =
-    (l.i ≤ 8) × (l.count ≤ l.i) × GatheredAll (frame_of l.f l.words) l.words (strength_of l.s) l.slots l.b l.i (record { l.even = l.even; l.tables = l.tables; l.count = l.count })
+    (l.i ≤ 8) × (l.count ≤ l.i) × GatheredAll (frame_of l.f l.words) l.words (strength_of l.s) l.slots l.b l.i (record { even = l.even; tables = l.tables; count = l.count })
 
 abbrev pub decreases-loop-i : goal.decreases-loop-i
 decreases-loop-i l = 8 - l.i

@@ -18,7 +18,7 @@ use Rattle.apart.proofs.crowd.in_entry.Goals.{After-crowds-found}
 low : (c : After-crowds-found) → let a = c.args in (n d : ℕ) → ((i : ℕ) → i < FIELDS → Counted a.base (4 * i) n d) → (i : ℕ) → i < FIELDS
     → bit c.crowds-found.result (4 * i) ≡ full_at board a.words.now a.tables.now (strength_of a.s) a.count n d (a.k * FIELDS + i)
 low c n d h i u =
-    c.crowds-found.ensures.1 (4 * i) _ _ (c.at_entry_lem.ensures i n d u (h i u)) ∙ and_when _ _ (field_low i u)
+    c.crowds-found.ensures.1 (4 * i) _ _ (c.at_entry.ensures i n d u (h i u)) ∙ and_when _ _ (field_low i u)
 
 pub returns-then-found-eq0 : goal.returns-then-found-eq0
 returns-then-found-eq0 c = λ n d h. no_lane 4 FIELDS c.crowds-found.result _ _ (low (goal.at.returns-then-found-eq0 c).After-crowds-found n d h) c.if-found-eq0.true

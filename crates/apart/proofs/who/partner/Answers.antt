@@ -21,11 +21,11 @@ use Rattle.apart.proofs.who.partner.Goals.{After-meets}
 
 -- the slot that is looked at
 here : (c : After-meets) → let a = c.args in
-    test (frame_of a.f a.words.now) a.words.now a.t3 (strength_of a.s) a.page.0 a.i c.loop-j.j ≡ c.meets.result
+    test (frame_of a.f a.words.now) a.words.now a.slots (strength_of a.s) a.page.0 a.i c.loop-j.j ≡ c.meets.result
 unfolding slot_at
 here c =
     let a = c.args in
-    pair_meets (frame_of a.f a.words.now) a.words.now a.t3 (strength_of a.s) a.page.0 a.i c.loop-j.j
+    pair_meets (frame_of a.f a.words.now) a.words.now a.slots (strength_of a.s) a.page.0 a.i c.loop-j.j
     ∙ rw (lt-ltb a.i c.loop-j.j c.loop-j.invariant.0) (ap₂ (λ (x y : ℕ). meet (strength_of a.s) x y) (sym c.has-p.ensures) (sym c.has.ensures) ∙ sym c.meets.ensures)
 
 pub loop-j-init : goal.loop-j-init
@@ -34,7 +34,7 @@ loop-j-init c =
       omega arith,
       omega (arith, c.requires.1),
       λ k u.
-          pair_meets (frame_of a.f a.words.now) a.words.now a.t3 (strength_of a.s) a.page.0 a.i (0 + k) ∙ rw (le-ltb a.i (0 + k) (omega arith)) refl,
+          pair_meets (frame_of a.f a.words.now) a.words.now a.slots (strength_of a.s) a.page.0 a.i (0 + k) ∙ rw (le-ltb a.i (0 + k) (omega arith)) refl,
     )
 
 pub returns-then-meets : goal.returns-then-meets
@@ -45,5 +45,5 @@ loop-j-preserved c =
     let a = c.args in (
       omega (arith, c.loop-j.invariant.0),
       omega arith,
-      none_one (test (frame_of a.f a.words.now) a.words.now a.t3 (strength_of a.s) a.page.0 a.i) c.loop-j.j c.loop-j.invariant.2 (here (goal.at.loop-j-preserved c).After-meets ∙ c.if-meets.false),
+      none_one (test (frame_of a.f a.words.now) a.words.now a.slots (strength_of a.s) a.page.0 a.i) c.loop-j.j c.loop-j.invariant.2 (here (goal.at.loop-j-preserved c).After-meets ∙ c.if-meets.false),
     )

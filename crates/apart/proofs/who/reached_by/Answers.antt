@@ -21,11 +21,11 @@ use Rattle.apart.proofs.who.reached_by.Goals.{After-reaches}
 
 -- the slot that is looked at
 here : (c : After-reaches) → let a = c.args in
-    test (frame_of a.f a.words.now) a.words.now a.t3 (strength_of a.s) a.page.0 c.loop-i.i ≡ c.reaches.result
+    test (frame_of a.f a.words.now) a.words.now a.slots (strength_of a.s) a.page.0 c.loop-i.i ≡ c.reaches.result
 unfolding slot_at
 here c =
     let a = c.args in
-    slot_reaches (frame_of a.f a.words.now) a.words.now a.t3 c.loop-i.i a.page.0 (strength_of a.s)
+    slot_reaches (frame_of a.f a.words.now) a.words.now a.slots c.loop-i.i a.page.0 (strength_of a.s)
     ∙ ap (λ (p : ℕ). reach_of (strength_of a.s) (perm p)) (sym c.has.ensures) ∙ sym c.reaches.ensures
 
 pub returns-then-reaches : goal.returns-then-reaches
@@ -34,4 +34,4 @@ returns-then-reaches c = found_next _ c.loop-i.i c.loop-i.invariant.1 8 (omega a
 pub loop-i-preserved : goal.loop-i-preserved
 loop-i-preserved c =
     let a = c.args in
-    (omega arith, none_one (test (frame_of a.f a.words.now) a.words.now a.t3 (strength_of a.s) a.page.0) c.loop-i.i c.loop-i.invariant.1 (here (goal.at.loop-i-preserved c).After-reaches ∙ c.if-reaches.false))
+    (omega arith, none_one (test (frame_of a.f a.words.now) a.words.now a.slots (strength_of a.s) a.page.0) c.loop-i.i c.loop-i.invariant.1 (here (goal.at.loop-i-preserved c).After-reaches ∙ c.if-reaches.false))

@@ -18,11 +18,11 @@ returns-then-i-lt8 c =
     let a = c.args in
     let F = frame_of a.f a.words.now in
     ap (table_open a.page.0 c.reached_by-i.result) (c.writes.ensures ∙ ap (λ (p : ℕ). grants (perm p) write) c.has.ensures)
-    ∙ sym (table_some F a.words.now a.t3 (strength_of a.s) a.page.0 c.requires.1 c.reached_by-i.result c.reached_by-i.ensures c.if-i-lt8.true).1
+    ∙ sym (table_some F a.words.now a.slots (strength_of a.s) a.page.0 c.requires.1 c.reached_by-i.result c.reached_by-i.ensures c.if-i-lt8.true).1
 
 pub returns : goal.returns
 unfolding head_d
 returns c =
     let a = c.args in
     let F = frame_of a.f a.words.now in
-    sym (ap (λ (l : List Separation). head_d l apart) (table_none F a.words.now a.t3 (strength_of a.s) a.page.0 c.requires.1 c.reached_by-i.result c.reached_by-i.ensures c.if-i-lt8.false))
+    sym (ap (λ (l : List Separation). head_d l apart) (table_none F a.words.now a.slots (strength_of a.s) a.page.0 c.requires.1 c.reached_by-i.result c.reached_by-i.ensures c.if-i-lt8.false))

@@ -2,11 +2,8 @@
 use mathlib.Core.Path.{◌≡◌, refl, sym, ap, ◌∙◌}
 use mathlib.Core.Bool.{true}
 use mathlib.Core.List.{List, [], ◌∷◌}
-use mathlib.Core.Logic.{inl, inr}
 use Prim.Native.Nat.{ℕ}
 use native.Mathlib.Omega.{arith}
-use denote.Enum.Declared.{tag_of}
-use types.Run.{OneOf}
 use borrow.Author.Rules.{rules}
 use Rattle.shapes.specs.Pages.{Plain}
 use Rattle.shapes.specs.Run.{run}
@@ -19,15 +16,15 @@ use Rattle.table.specs.Board.{frame_of}
 use Rattle.types.specs.Views.{entry_of, request_of}
 use Rattle.types.specs.declared.Entry.{Entry}
 use Rattle.types.specs.declared.Entry.TheVariants.{Flat, Pieces, Table, Invalid}
-use Rattle.types.specs.contracts.Entry as declared
+use Rattle.types.specs.declared.PageNumber.{PageNumber}
 use Rattle.edit.proofs.block.store_table.Goals as goal
 use Rattle.edit.proofs.block.store_table.Goals.{In_default}
 
 -- what is no `Entry::Table` names no page
-plain_of : (e : Entry) → OneOf (0 ∷ 1 ∷ 3 ∷ []) (tag_of declared.the_type e) → Plain (entry_of e)
+plain_of : (e : Entry) → ((t : PageNumber) → e ≡ Table t → ⊥) → Plain (entry_of e)
 plain_of (Flat p) h = tt
 plain_of (Pieces i) h = tt
-plain_of (Table t) h = elim h [ inl z ↦ omega (arith, z) | inr k ↦ elim k [ inl z ↦ omega (arith, z) | inr z ↦ omega (arith, z) ] ]
+plain_of (Table t) h = absurd (h t refl)
 plain_of Invalid h = tt
 
 -- so it needs one, and its stores are those that fill and link it
@@ -46,7 +43,7 @@ plain-stores F m q root (entry.table t) b new h = absurd h
 plain-stores F m q root entry.invalid b new h = refl
 
 plain_here : (c : In_default) → Plain (entry_of c.args.e)
-plain_here c = plain_of c.args.e c.in_default.keys2
+plain_here c = plain_of c.args.e c.in_default.not-Table
 
 pub own_table-requires : goal.own_table-requires
 unfolding block_stores
