@@ -1,0 +1,35 @@
+-- `apart::crowd::in_block` meets its contract: what was gathered says which pages are crowded.
+use Prim.Native.Nat.{◌*◌, ◌/◌, ◌<◌}
+use native.Mathlib.Omega.{arith}
+use borrow.Author.Rules.{rules}
+use Rattle.model.specs.Layout.{block_pages}
+use Rattle.sharing.proofs.CrowdLaws.{crowd_gathered, crowd_even, crowd_alone}
+use Rattle.sharing.proofs.FirstLaws.{none_at_all, first_there}
+use Rattle.table.specs.Board.{PIECES, PIECE-PAGES, frame_of}
+use Rattle.types.specs.Views.{strength_of}
+use Rattle.apart.proofs.crowd.in_block.Goals as goal
+
+pub returns-then-count-eq0 : goal.returns-then-count-eq0
+returns-then-count-eq0 c =
+    let a = c.args in
+    let h = c.gather-shares.ensures in
+    first_there _ _ (a.b * block_pages) block_pages _
+    (λ k u. crowd_even (frame_of a.f a.words.now) a.words.now a.slots (strength_of a.s) a.b c.gather-shares.result h c.if-count-eq0.true k u)
+    (c.in_pieces.ensures h.opened h.reached h.even)
+
+pub returns-then-alone : goal.returns-then-alone
+returns-then-alone c =
+    let a = c.args in
+    let h = c.gather-shares.ensures in
+    let one = c.alone.ensures c.if-alone.true in
+    none_at_all _ (a.b * block_pages) block_pages
+    (crowd_alone (frame_of a.f a.words.now) a.words.now a.slots (strength_of a.s) a.b c.gather-shares.result h one.0
+    (λ q u. let low : q / PIECE-PAGES < PIECES = omega arith in one.1 (q / PIECE-PAGES) _ _ low (h.even (q / PIECE-PAGES) low)))
+
+pub returns : goal.returns
+returns c =
+    let a = c.args in
+    let h = c.gather-shares.ensures in
+    first_there _ _ (a.b * block_pages) block_pages _
+    (λ k u. crowd_gathered (frame_of a.f a.words.now) a.words.now a.slots (strength_of a.s) a.b c.gather-shares.result h k u)
+    (c.in_tables.ensures h.opened h.reached h.even)
