@@ -1,88 +1,56 @@
 // What the program writes: numbers, and what a call answers.
-use io::{print_decimal, print_hex, write_all};
-use libc::STDOUT_FILENO;
 use monitor::Reply;
+use std::io;
 use types::number::{of_cause, of_refusal};
 use types::{Answer, Fence, Permission};
 
-pub fn text(what: &[u8]) {
-    write_all(STDOUT_FILENO, what);
-}
-
-pub fn number(what: &[u8], n: u64) {
-    text(what);
-    print_decimal(STDOUT_FILENO, n);
-}
-
-pub fn hex(what: &[u8], n: u64) {
-    text(what);
-    print_hex(STDOUT_FILENO, n, 1);
-}
-
-// An entry, with all its 16 digits.
-pub fn word(what: &[u8], n: u64) {
-    text(what);
-    print_hex(STDOUT_FILENO, n, 16);
-    text(b"\n");
-}
-
-pub fn permission(p: Permission) {
+pub fn permission(rt: &impl Print, p: Permission) -> io::Result<()> {
     match p {
-        Permission::None => text(b"none"),
-        Permission::Rx => text(b"rx"),
-        Permission::Rw => text(b"rw"),
-        Permission::Rwx => text(b"rwx"),
+        Permission::None => print!(rt; "none"),
+        Permission::Rx => print!(rt; "rx"),
+        Permission::Rw => print!(rt; "rw"),
+        Permission::Rwx => print!(rt; "rwx"),
     }
 }
 
-fn stores(count: u64, all: bool) {
-    number(b": ", count);
+fn stores(rt: &impl Print, count: u64, all: bool) -> io::Result<()> {
+    print!(rt; ": {count} ")?;
     if count == 1 {
-        text(b" store, ");
+        print!(rt; "store, ")?;
     } else {
-        text(b" stores, ");
+        print!(rt; "stores, ")?;
     }
     if all {
-        text(b"all");
+        print!(rt; "all")
     } else {
-        text(b"not all");
+        print!(rt; "not all")
     }
 }
 
-pub fn reply(r: Reply) {
+pub fn reply(rt: &impl Print, r: Reply) -> io::Result<()> {
     match r {
-        Reply::Refused(why) => number(b": refused ", of_refusal(why)),
-        Reply::Opened => text(b": opened"),
-        Reply::Closed => text(b": closed"),
-        Reply::Edited(count, all) => stores(count, all),
+        Reply::Refused(why) => print!(rt; ": refused {}", of_refusal(why)),
+        Reply::Opened => print!(rt; ": opened"),
+        Reply::Closed => print!(rt; ": closed"),
+        Reply::Edited(count, all) => stores(rt, count, all),
     }
 }
 
-pub fn fence(f: Fence) {
+pub fn fence(rt: &impl Print, f: Fence) -> io::Result<()> {
     match f {
-        Fence::Nothing => text(b", no fence\n"),
-        Fence::Domain(sdid) => {
-            number(b", fence of domain ", sdid.0);
-            text(b"\n");
-        }
-        Fence::One(address, sdid) => {
-            number(b", fence of domain ", sdid.0);
-            hex(b" at 0x", address.0);
-            text(b"\n");
-        }
+        Fence::Nothing => println!(rt; ", no fence"),
+        Fence::Domain(sdid) => println!(rt; ", fence of domain {}", sdid.0),
+        Fence::One(address, sdid) => println!(rt;
+            ", fence of domain {} at 0x{:x}",
+            sdid.0, address.0
+        ),
     }
 }
 
-pub fn answer(a: Answer) {
+pub fn answer(rt: &impl Print, a: Answer) -> io::Result<()> {
     match a {
-        Answer::Allowed => text(b": allowed\n"),
-        Answer::Fault(c) => {
-            number(b": fault ", of_cause(c));
-            text(b"\n");
-        }
-        Answer::Refused(r) => {
-            number(b": refused ", of_refusal(r));
-            text(b"\n");
-        }
+        Answer::Allowed => println!(rt; ": allowed"),
+        Answer::Fault(cause) => println!(rt; ": fault {}", of_cause(cause)),
+        Answer::Refused(why) => println!(rt; ": refused {}", of_refusal(why)),
     }
 }

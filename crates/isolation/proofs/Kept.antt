@@ -40,7 +40,7 @@ use Rattle.theory.proofs.Zeroed.{zero_from, zero_other_page}
 use Rattle.theory.proofs.OpenClose.{open_new, open_others}
 use Rattle.isolation.specs.Run.{is_allowed}
 use Rattle.isolation.specs.Neighbours.{SameTable}
-use Rattle.isolation.specs.Kept.{Shut, SameRights, Unnamed, Keeps, Call, opening, cut_opening, closing, editing, FourPermissions, zeroed_to, leaves, history, EditsKeep, StaysShut, AlwaysShut}
+use Rattle.isolation.specs.Kept.{Shut, SameRights, Unnamed, Keeps, Call, opening, cut_opening, closing, editing, zeroed_to, leaves, history, EditsKeep, StaysShut, AlwaysShut}
 use Rattle.isolation.proofs.Walking.{walk_kept}
 use Rattle.isolation.proofs.Slots.{slot_domain}
 use Rattle.isolation.proofs.Steps.{never_true, judge_grants, reaches_open}
@@ -270,12 +270,13 @@ module _ (F : Frame) (lawful : Lawful F.layout) where
   unfolding history leaves
   stays_shut m slots [] eight four shut = shut
   stays_shut m slots (opening s sdid ∷ cs) eight four shut =
-      stays_shut _ _ cs (leaves_eight m slots (opening s sdid) eight) four (open_shut F lawful m slots eight s shut sdid)
-  stays_shut m slots (cut_opening s sdid k ∷ cs) eight four shut = stays_shut _ _ cs eight four (opening_shut m slots s sdid k shut)
+      stays_shut (leaves F (m, slots) (opening s sdid)).0 (leaves F (m, slots) (opening s sdid)).1 cs (leaves_eight m slots (opening s sdid) eight) four (open_shut F lawful m slots eight s shut sdid)
+  stays_shut m slots (cut_opening s sdid k ∷ cs) eight four shut =
+      stays_shut (leaves F (m, slots) (cut_opening s sdid k)).0 (leaves F (m, slots) (cut_opening s sdid k)).1 cs eight four (opening_shut m slots s sdid k shut)
   stays_shut m slots (closing s ∷ cs) eight four shut =
-      stays_shut _ _ cs (leaves_eight m slots (closing s) eight) four (close_shut F lawful m slots eight s shut)
+      stays_shut (leaves F (m, slots) (closing s)).0 (leaves F (m, slots) (closing s)).1 cs (leaves_eight m slots (closing s) eight) four (close_shut F lawful m slots eight s shut)
   stays_shut m slots (editing q cuts ∷ cs) eight four shut =
-      stays_shut _ _ cs eight four.1 (edit_shut m slots q cuts four.0 shut)
+      stays_shut (leaves F (m, slots) (editing q cuts)).0 (leaves F (m, slots) (editing q cuts)).1 cs eight four.1 (edit_shut m slots q cuts four.0 shut)
 
 -- with no domain nothing is open
 pub always_shut : (F : Frame) → Lawful F.layout → AlwaysShut F

@@ -2,59 +2,61 @@
 // put together here word by word. Two pages from page 0x80000 are enough for these cases: a root and one L1 page. Each line is one lookup.
 #![tactic(auto)]
 
-use io::{print_decimal, print_hex, write_all};
-use libc::STDOUT_FILENO;
 use lookup::lookup;
+use std::io;
 use types::number::{of_cause, of_refusal};
 use types::{Access, Address, Answer, Frame, Kind, PageNumber, Privilege};
 
 // Slot 0 opened with SDID 5 at page 0x80000.
 const REGISTER: u64 = 0x1140_0000_0008_0000;
 
-fn numbered(what: &[u8], n: u64) {
-    write_all(STDOUT_FILENO, what);
-    print_decimal(STDOUT_FILENO, n);
-    write_all(STDOUT_FILENO, b"\n");
-}
-
 // One line: what was asked, the address and the answer.
-fn say(what: &[u8], a: u64, answer: Answer) {
-    write_all(STDOUT_FILENO, what);
-    write_all(STDOUT_FILENO, b" 0x");
-    print_hex(STDOUT_FILENO, a, 1);
+fn say(rt: &impl Print, what: &str, a: u64, answer: Answer) -> io::Result<()> {
+    print!(rt; "{what} 0x{a:x}: ")?;
     match answer {
-        Answer::Allowed => {
-            write_all(STDOUT_FILENO, b": allowed\n");
-        }
-        Answer::Fault(c) => numbered(b": fault ", of_cause(c)),
-        Answer::Refused(r) => numbered(b": refused ", of_refusal(r)),
+        Answer::Allowed => println!(rt; "allowed"),
+        Answer::Fault(cause) => println!(rt; "fault {}", of_cause(cause)),
+        Answer::Refused(why) => println!(rt; "refused {}", of_refusal(why)),
     }
 }
 
 // A lookup in the frame of the bench cases: PAW 32, from page 0x80000.
-fn ask(what: &[u8], words: &[u64], register: u64, who: Privilege, kind: Kind, a: u64) {
+fn ask(
+    rt: &impl Print,
+    what: &str,
+    words: &[u64],
+    register: u64,
+    who: Privilege,
+    kind: Kind,
+    a: u64,
+) -> io::Result<()> {
     let f = Frame {
         paw: 32,
         first: PageNumber(0x80000),
     };
-    say(what, a, lookup(f, words, register, who, kind, Address(a)));
+    say(
+        rt,
+        what,
+        a,
+        lookup(f, words, register, who, kind, Address(a)),
+    )
 }
 
 // The same in supervisor mode with slot 0's register.
-fn in_domain(what: &[u8], words: &[u64], kind: Kind, a: u64) {
-    ask(what, words, REGISTER, Privilege::Supervisor, kind, a);
+fn in_domain(rt: &impl Print, what: &str, words: &[u64], kind: Kind, a: u64) -> io::Result<()> {
+    ask(rt, what, words, REGISTER, Privilege::Supervisor, kind, a)
 }
 
-fn load(words: &[u64], a: u64) {
-    in_domain(b"load", words, Kind::Itself(Access::Load), a);
+fn load(rt: &impl Print, words: &[u64], a: u64) -> io::Result<()> {
+    in_domain(rt, "load", words, Kind::Itself(Access::Load), a)
 }
 
-fn store(words: &[u64], a: u64) {
-    in_domain(b"store", words, Kind::Itself(Access::Store), a);
+fn store(rt: &impl Print, words: &[u64], a: u64) -> io::Result<()> {
+    in_domain(rt, "store", words, Kind::Itself(Access::Store), a)
 }
 
-fn fetch(words: &[u64], a: u64) {
-    in_domain(b"fetch", words, Kind::Itself(Access::Fetch), a);
+fn fetch(rt: &impl Print, words: &[u64], a: u64) -> io::Result<()> {
+    in_domain(rt, "fetch", words, Kind::Itself(Access::Fetch), a)
 }
 
 // Case C: entry 32 names the L1 page 0x80001, whose first field is rw, and entries 33 to 63 are TYPE 6.
@@ -67,168 +69,196 @@ fn case_c(words: &mut [u64; 1024]) {
 }
 
 // Case E, and the same page for the other kinds.
-fn case_e(words: &[u64; 1024]) {
-    load(words, 0x4000_0000);
-    store(words, 0x4000_0FFF);
-    fetch(words, 0x4000_0FFF);
+fn case_e(rt: &impl Print, words: &[u64; 1024]) -> io::Result<()> {
+    load(rt, words, 0x4000_0000)?;
+    store(rt, words, 0x4000_0FFF)?;
+    fetch(rt, words, 0x4000_0FFF)?;
     in_domain(
-        b"page-table read for a store",
+        rt,
+        "page-table read for a store",
         words,
         Kind::TableRead(Access::Store),
         0x4000_1000,
-    );
+    )?;
     in_domain(
-        b"page-table read for a fetch",
+        rt,
+        "page-table read for a fetch",
         words,
         Kind::TableRead(Access::Fetch),
         0x4000_1000,
-    );
+    )?;
     in_domain(
-        b"page-table read for a store",
+        rt,
+        "page-table read for a store",
         words,
         Kind::TableRead(Access::Store),
         0x4000_0000,
-    );
+    )?;
     in_domain(
-        b"update for a load",
+        rt,
+        "update for a load",
         words,
         Kind::Update(Access::Load),
         0x4000_1000,
-    );
+    )?;
     in_domain(
-        b"update for a load",
+        rt,
+        "update for a load",
         words,
         Kind::Update(Access::Load),
         0x4000_0000,
-    );
-    load(words, 0x4200_0000);
+    )?;
+    load(rt, words, 0x4200_0000)
 }
 
 // Registers, on the memory of case C.
-fn registers(words: &[u64; 1024]) {
+fn registers(rt: &impl Print, words: &[u64; 1024]) -> io::Result<()> {
     let user = Privilege::User;
     let kind = Kind::Itself(Access::Load);
     let a = 0x4000_0000;
-    ask(b"SDID 0, load", words, 0x1000_0000_0008_0000, user, kind, a);
     ask(
-        b"WPRI set, load",
+        rt,
+        "SDID 0, load",
+        words,
+        0x1000_0000_0008_0000,
+        user,
+        kind,
+        a,
+    )?;
+    ask(
+        rt,
+        "WPRI set, load",
         words,
         0x117F_F000_0008_0000,
         user,
         kind,
         a,
-    );
+    )?;
     ask(
-        b"root not lent, load",
+        rt,
+        "root not lent, load",
         words,
         0x1140_0000_0008_0002,
         user,
         kind,
         a,
-    );
-    ask(b"MODE 2, load", words, 0x2140_0000_0008_0000, user, kind, a);
-    ask(b"Bare with PPN, load", words, 0x8_0000, user, kind, a);
+    )?;
     ask(
-        b"Bare with SDID, load",
+        rt,
+        "MODE 2, load",
+        words,
+        0x2140_0000_0008_0000,
+        user,
+        kind,
+        a,
+    )?;
+    ask(rt, "Bare with PPN, load", words, 0x8_0000, user, kind, a)?;
+    ask(
+        rt,
+        "Bare with SDID, load",
         words,
         0x0140_0000_0000_0000,
         user,
         kind,
         a,
-    );
+    )?;
     ask(
-        b"Bare with WPRI, load",
+        rt,
+        "Bare with WPRI, load",
         words,
         0x1000_0000_0000,
         user,
         kind,
         0x1_0000_0000,
-    );
-    ask(b"Bare, load", words, 0, user, kind, 0x1_0000_0000);
+    )?;
+    ask(rt, "Bare, load", words, 0, user, kind, 0x1_0000_0000)?;
     ask(
-        b"M mode, load",
+        rt,
+        "M mode, load",
         words,
         REGISTER,
         Privilege::Machine,
         kind,
         0x1_0000_0000,
-    );
+    )?;
     ask(
-        b"M mode and MODE 2, load",
+        rt,
+        "M mode and MODE 2, load",
         words,
         0x2140_0000_0008_0000,
         Privilege::Machine,
         kind,
         a,
-    );
+    )
 }
 
 // Memory that is not whole pages, with a register that would be refused too: the frame comes first.
-fn one_word_short() {
+fn one_word_short(rt: &impl Print) -> io::Result<()> {
     let short = [0u64; 1023];
     let kind = Kind::Itself(Access::Load);
     ask(
-        b"one word short, load",
+        rt,
+        "one word short, load",
         &short,
         0x2140_0000_0008_0000,
         Privilege::User,
         kind,
         0x4000_0000,
-    );
+    )
 }
 
 // The fields of L1 entries: a reserved bit stops every page of its entry, whichever field has it, and none of the next; and an address whose
 // indices all differ.
-fn fields(words: &mut [u64; 1024]) {
+fn fields(rt: &impl Print, words: &mut [u64; 1024]) -> io::Result<()> {
     words[512] = 0x4000_0000_0000_0002;
     words[513] = 0x2;
     words[514] = 0x6000_0000_0000_0000;
     words[515] = 0x2000_0000_0000_0004;
-    load(words, 0x4000_0000);
-    load(words, 0x4000_F000);
-    load(words, 0x4001_0000);
-    load(words, 0x4002_F000);
-    store(words, 0x4003_F000);
+    load(rt, words, 0x4000_0000)?;
+    load(rt, words, 0x4000_F000)?;
+    load(rt, words, 0x4001_0000)?;
+    load(rt, words, 0x4002_F000)?;
+    store(rt, words, 0x4003_F000)?;
     words[512 + 18] = 0x1000;
-    fetch(words, 0x4012_3456);
-    store(words, 0x4012_3456);
-    fetch(words, 0x4012_2FFF);
-    fetch(words, 0x4013_3000);
+    fetch(rt, words, 0x4012_3456)?;
+    store(rt, words, 0x4012_3456)?;
+    fetch(rt, words, 0x4012_2FFF)?;
+    fetch(rt, words, 0x4013_3000)
 }
 
 // L2 entry 32 as given, and one load.
-fn with_entry(words: &mut [u64; 1024], entry: u64, a: u64) {
+fn with_entry(rt: &impl Print, words: &mut [u64; 1024], entry: u64, a: u64) -> io::Result<()> {
     words[32] = entry;
-    load(words, a);
+    load(rt, words, a)
 }
 
 // The rules of L2 entries.
-fn entries(words: &mut [u64; 1024]) {
+fn entries(rt: &impl Print, words: &mut [u64; 1024]) -> io::Result<()> {
     // an L1 page whose number has the same low 32 bits as a lent one
-    with_entry(words, 0x0000_4001_0008_0001, 0x4000_0000);
+    with_entry(rt, words, 0x0000_4001_0008_0001, 0x4000_0000)?;
     // TYPE 2, and with INFO not zero, with ZERO not zero
-    with_entry(words, 0x0000_2000_0000_0000, 0x4000_0000);
-    with_entry(words, 0x0000_2000_0000_0001, 0x4000_0000);
-    with_entry(words, 0x0000_A000_0000_0000, 0x4000_0000);
+    with_entry(rt, words, 0x0000_2000_0000_0000, 0x4000_0000)?;
+    with_entry(rt, words, 0x0000_2000_0000_0001, 0x4000_0000)?;
+    with_entry(rt, words, 0x0000_A000_0000_0000, 0x4000_0000)?;
     // TYPE 6, piece 1 alone: 0x40200000 to 0x403FFFFF; and with bit 32 of INFO set
-    with_entry(words, 0x0000_6000_0000_0008, 0x401F_FFFF);
-    with_entry(words, 0x0000_6000_0000_0008, 0x4020_0000);
-    with_entry(words, 0x0000_6000_0000_0008, 0x4040_0000);
-    with_entry(words, 0x0000_6001_0000_0008, 0x4020_0000);
+    with_entry(rt, words, 0x0000_6000_0000_0008, 0x401F_FFFF)?;
+    with_entry(rt, words, 0x0000_6000_0000_0008, 0x4020_0000)?;
+    with_entry(rt, words, 0x0000_6000_0000_0008, 0x4040_0000)?;
+    with_entry(rt, words, 0x0000_6001_0000_0008, 0x4020_0000)?;
     // TYPE 5 and 7
-    with_entry(words, 0x0000_5000_0000_0000, 0x4000_0000);
-    with_entry(words, 0x0000_7000_0000_0000, 0x4000_0000);
+    with_entry(rt, words, 0x0000_5000_0000_0000, 0x4000_0000)?;
+    with_entry(rt, words, 0x0000_7000_0000_0000, 0x4000_0000)
 }
 
-fn main() {
+fn main(rt: HostRuntime) -> io::Result<()> {
     let mut words = [0u64; 1024];
     // case A, and the last sentence of case I
-    load(&words, 0x4000_0000);
-    load(&words, 0x1_0000_0000);
+    load(&rt, &words, 0x4000_0000)?;
+    load(&rt, &words, 0x1_0000_0000)?;
     case_c(&mut words);
-    case_e(&words);
-    registers(&words);
-    one_word_short();
-    fields(&mut words);
-    entries(&mut words);
+    case_e(&rt, &words)?;
+    registers(&rt, &words)?;
+    one_word_short(&rt)?;
+    fields(&rt, &mut words)?;
+    entries(&rt, &mut words)
 }

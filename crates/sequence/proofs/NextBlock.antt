@@ -11,7 +11,7 @@ use Rattle.laws.proofs.Choices.{split}
 use Rattle.laws.proofs.Fronts.{drop_tail}
 use Rattle.laws.proofs.Times.{head_times}
 use Rattle.model.specs.Forms.{Request, Form, after, form_in, forms_in, gib_is_one, first_gib, gibs}
-use Rattle.model.specs.Frame.{Frame, blocks}
+use Rattle.model.specs.Frame.{Frame}
 use Rattle.model.specs.Layout.{gib_blocks}
 use Rattle.model.specs.Numbers.{if◌then◌else◌}
 use Rattle.model.specs.Stores.{Store, apply, needs_page, stores_from, new_pages}

@@ -1,9 +1,8 @@
 -- What a slot may do with a page, as a permission: by it the page is open, may be written and is reached.
 use mathlib.Core.Path.{◌≡◌, refl, sym}
 use mathlib.Core.Bool.{Bool, true, false, ◌&&◌, ◌||◌, false≢true}
-use mathlib.Core.Logic.{◌≢◌}
 use mathlib.Core.List.{List}
-use Prim.Native.Nat.{ℕ, ◌-◌}
+use Prim.Native.Nat.{ℕ}
 use Rattle.model.specs.Register.{ppn_of}
 use Rattle.model.specs.Entry.{Found, perm, faults}
 use Rattle.model.specs.Frame.{Frame}
