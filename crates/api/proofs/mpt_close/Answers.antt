@@ -1,0 +1,11 @@
+-- `api::mpt_close` meets its contract: the word of what `monitor::close` answers.
+use mathlib.Core.Path.{ap, ◌∙◌}
+use borrow.Author.Rules.{rules}
+use Rattle.api.specs.CallWords.{done_word}
+use Rattle.model.specs.Calls.{Outcome}
+use Rattle.api.proofs.mpt_close.Goals as goal
+
+pub returns : goal.returns
+returns c =
+    let a = c.args in
+    c.done_word.ensures a.words.now ∙ ap (λ (o : Outcome). done_word o) c.close-o.ensures
