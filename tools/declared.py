@@ -48,17 +48,17 @@ def closed(text, at):
 # ---- where names come from
 
 def origins(where, text):
-    """By local name, the places that it is imported from. A place has one name, whether it is named from its own crate or from another."""
+    """By local name, the places that it is imported from."""
     found = {}
-    for line in re.findall(r"^\s*(?:pub )?(?:ghost )?use\b.*", text, re.M):
-        match = re.fullmatch(r"\s*(?:pub )?(?:ghost )?use ([^\s{;]+?)(?:\.\{([^}]*)\}| as ([^\s;]+))?;?", line)
-        if not match:
-            unread.append(f"{where}: {line.strip()}")
-            continue
-        place, names, alias = match.groups()
-        place = re.sub(r"^(Rattle·\w+)·(specs|proofs)\.\2", r"\1.\2", place)
+    for line in re.findall(r"^\s*(?:pub )?(?:ghost )?use\b(?:[^;{\n]*\{[^{}]*\})?.*", text, re.M):
+        match = re.fullmatch(r"(?:pub )?(?:ghost )?use ([^\s{;]+?)(?:(\.|::)\{([^{}]*)\}| as ([^\s;]+))?;?", one_line([line]))
+        place, sign, names, alias = match.groups() if match else (line, "", "*", None)
         listed = [name.split() for name in (names or "").split(",") if name.strip()]
-        pairs = [(alias, place)] if alias else [(name[-1], f"{place}.{name[0]}") for name in listed] or [(re.split(r"::|\.", place)[-1], place)]
+        last = re.split(r"::|\.", place)[-1]
+        if ["*"] in [[last], *listed]:
+            unread.append(f"{where}: {one_line([line])}")
+            continue
+        pairs = [(alias, place)] if alias else [(last, place) if name == ["self"] else (name[-1], f"{place}{sign}{name[0]}") for name in listed] or [(last, place)]
         for name, origin in pairs:
             found.setdefault(name, set()).add(origin)
     return found
@@ -67,7 +67,7 @@ def origins(where, text):
 def used(found, text):
     """Of imported names those that stand in a text; of an operator one of its parts does."""
     words = set(re.findall(r"[^\s(){}\[\];,.:⌜⌝λ&|!]+", text)) | set(re.findall(r"\w+", text))
-    stands = lambda name: name in words or "_" in name and any(part in words for part in name.split("_") if part)
+    stands = lambda name: name in words or "◌" in name and any(part in words for part in name.split("◌") if part)
     return {name: sorted(places) for name, places in found.items() if stands(name)}
 
 
@@ -120,8 +120,8 @@ def declarations(crate, path, text, kind):
     found, imported = [], origins(where, "\n".join(code_lines(text, "--")))
     for modules, chunk in chunks(where, text):
         sort, name = name_of(chunk)
-        # the equations of `if_then_else_` do not begin with its name
-        own = next((entry for entry in reversed(found) if entry[1] == modules and (entry[0] == name or "_" in entry[0] and entry is found[-1])), None)
+        # the equations of `if◌then◌else◌` do not begin with its name
+        own = next((entry for entry in reversed(found) if entry[1] == modules and (entry[0] == name or "◌" in entry[0] and entry is found[-1])), None)
         if sort in ("declared", "whole"):
             found.append((name, modules, chunk, [], sort))
         elif sort == "unfolding" and found:
@@ -140,24 +140,31 @@ def declarations(crate, path, text, kind):
 
 # ---- contracts, types, constants
 
+TACTICS = r"#\[tactic\b[^\]]*\]\s*"
+
+
 def function(text, start, after):
-    """A function's signature and clauses, its body, how many lines it has before the body, and where it ends."""
+    """A function's signature and clauses, its body with the tactics that are named for its proof, how many lines it has before the body, and where it
+    ends."""
     end = outside(text, ["ghost ", "requires ", "ensures ", "decreases ", "{", ";"], after)
-    parts = [one_line([text[start:end]])]
+    signature = text[start:end]
+    parts, tactics = [one_line([re.sub(TACTICS, "", signature)])], re.findall(TACTICS, signature)
     while match := re.compile(r"\s*(ghost|requires|ensures|decreases)\b[^{]*").match(text, end):
         close = closed(text, match.end())
         parts.append(one_line([text[end:close]]))
         end = close
-    lines = len(text[start:end].strip().split("\n"))
+    lines = len(re.sub(TACTICS, "", text[start:end]).strip().split("\n"))
     body = outside(text, ["{", ";"], end)
     close = closed(text, body) if text[body:body + 1] == "{" else body + 1
-    return parts, one_line([text[body:close]]), lines, close
+    return parts, one_line([*tactics, text[body:close]]), lines, close
 
 
 def contracts(crate, path, text, kind):
     """The functions of a file, and its types and constants."""
     where, module = f"{crate} {path}", os.path.splitext(os.path.basename(path))[0]
     text = "\n".join(code_lines(re.sub(r"/\*.*?\*/", "", text, flags=re.S), "//"))
+    # what each crate's root has
+    text = re.sub(r"^#!\[tactic\(auto\)\]$", "", text, flags=re.M)
     # a bracket in a string is none
     text = re.sub(r'"(\\.|[^"\\])*"', lambda string: string.group(0).translate(str.maketrans("([{}])", "❨❲❴❵❳❩")), text)
     imported = origins(where, text)
