@@ -74,13 +74,15 @@ sound/pick free_pages(f:Frame,n:usize,free:&Marks): monitor/lib edit_open, slots
     "limits": "edit/lib make, entries/put put_next",
     # those that lead to an edit's stores, or mark pages, do so once: they do not loop
     "loops": "",
+    # what is asked of a value: its length, and nothing that could store
+    "methods": "len",
     # names that would hide one of these: an import or a type under another name, a reference that a pattern makes, code from elsewhere
     "other names": "table/board type Word=u64\nmarks/lib type Marks=[u64;4]",
     "code from elsewhere": "",
     # where a proof says what stands, so that something is ahead; and who names the laws that begin an edit. (One is the name in an import, two
     # are a law's signature and its definition.)
     "stands =": "shapes/proofs/Order 2",
-    "ahead-start": "sequence/proofs/Facts 2, shapes/proofs/Order 3",
-    "ahead-each": "shapes/proofs/Order 2",
-    "facts": "edit/proofs/store_range/Proof 2, sequence/proofs/Facts 3",
+    "ahead_start": "sequence/proofs/Facts 2, shapes/proofs/Order 3",
+    "ahead_each": "shapes/proofs/Order 2",
+    "facts": "edit/proofs/store_range/Answers 2, edit/proofs/store_range/Invariants, sequence/proofs/Facts 3",
 }

@@ -60,14 +60,14 @@ WRONG = [
     ("limits", ROWS, LATER, "fn more() -> Budget { Budget { more: 9, last: 0 } }\n\n" + LATER),
     ("limits", EDIT, "let mut left = limit;", "let mut left = Budget { more: 100, last: 0 };"),
     ("stands =", "edit/proofs/store_range/Proof.antt", "\nadd-end :", "\nput : Ahead m l\nput = record { edit = e; made = []; later = []; order = o; stands\n  = refl }\n\nadd-end :"),
-    ("ahead-start", "sequence/proofs/Facts.antt", "(ahead-start (record", "(ahead-start (record {}) (ahead-start (record"),
-    ("ahead-start", "edit/proofs/store_range/Proof.antt", "\nadd-end :", "\nput = ahead-start e\n\nadd-end :"),
-    ("ahead-each", "edit/proofs/store_range/Proof.antt", "\nadd-end :", "\nuse Rattle·shapes.proofs.Order.{ahead-each as next}\n\nadd-end :"),
-    ("ahead-each", "entries/proofs/put/put/Proof.antt", "\nput-spec =", "\nput = Order.«ahead-each» e k\nput-spec ="),
-    ("ahead-each", "shapes/proofs/Order.antt", "\npub ahead-first :", "\npub begun = ahead-each\n\npub ahead-first :"),
-    ("ahead-each", "shapes/proofs/Order.antt", "\npub ahead-first :", '\npub begun = said "{-" ahead-each "-}"\n\npub ahead-first :'),
+    ("ahead_start", "sequence/proofs/Facts.antt", "(ahead_start (record", "(ahead_start (record {}) (ahead_start (record"),
+    ("ahead_start", "edit/proofs/store_range/Proof.antt", "\nadd-end :", "\nput = ahead_start e\n\nadd-end :"),
+    ("ahead_each", "edit/proofs/store_range/Proof.antt", "\nadd-end :", "\nuse Rattle.shapes.proofs.Order.{ahead_each as next}\n\nadd-end :"),
+    ("ahead_each", "entries/proofs/put/put/Proof.antt", "\nput-spec =", "\nput = Order.«ahead_each» e k\nput-spec ="),
+    ("ahead_each", "shapes/proofs/Order.antt", "\npub ahead_first :", "\npub begun = ahead_each\n\npub ahead_first :"),
+    ("ahead_each", "shapes/proofs/Order.antt", "\npub ahead_first :", '\npub begun = said "{-" ahead_each "-}"\n\npub ahead_first :'),
     ("facts", "edit/proofs/store_range/Proof.antt", "known c = let s", "known c = let t = facts F sh m in let s"),
-    ("facts", "edit/proofs/block/one_block/Proof.antt", "\nuse ", "\nuse Rattle·sequence.proofs.Facts as all\nput = all.facts\nuse "),
+    ("facts", "edit/proofs/block/one_block/Proof.antt", "\nuse ", "\nuse Rattle.sequence.proofs.Facts as all\nput = all.facts\nuse "),
 ]
 # what changes nothing
 SAME = [
@@ -75,5 +75,5 @@ SAME = [
     (STORE, "words[at] = word;", "words [ at ]\n        =word ; // one"),
     (EDIT, ONCE, "let progress = store_range(\n        edit,words, free, start\n    );"),
     (ROWS, "    rest\n}", "    if words[at] == word && n <= 2 {\n        return rest;\n    }\n    rest\n}"),
-    ("shapes/proofs/Order.antt", "\npub ahead-first :", "\n-- ahead-each and ahead-start {- stands = -} again\n{- facts\n stands = refl -}\nahead-each-more = ahead-started\npub ahead-first :"),
+    ("shapes/proofs/Order.antt", "\npub ahead_first :", "\n-- ahead_each and ahead_start {- stands = -} again\n{- facts\n stands = refl -}\nahead_each_more = ahead_started\npub ahead_first :"),
 ]
