@@ -78,7 +78,7 @@ sound/pick free_pages(f:Frame,n:usize,free:&Marks): monitor/lib edit_open, slots
     "methods": "len",
     # names that would hide one of these: an import or a type under another name, a reference that a pattern makes, code from elsewhere
     "other names": "table/board type Word=u64\nmarks/lib type Marks=[u64;4]",
-    "code from elsewhere": "",
+    "code from elsewhere": "marks/lib u64::trailing_zeros",
     # where a proof says what stands, so that something is ahead; and who names the laws that begin an edit. (One is the name in an import, two
     # are a law's signature and its definition.)
     "stands =": "shapes/proofs/Order 2",
