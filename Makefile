@@ -23,7 +23,7 @@ run: command
 
 # every crate is proved from nothing and its wrong versions are refused, each by a fact; wrong definitions are refused; the library's stores
 # are traced; the compiled monitor is held against the second program. What rt ci said last is said again at the end, if all else passed.
-# rt ci waits for the last check of a batch, so a batch is of twice as many as there are cores
+# The library is made over what rt ci has just proved, if no file was touched meanwhile
 test:
 	@tools/kit
 	@tools/need cc:gcc cargo python3 perl
@@ -31,7 +31,7 @@ test:
 	@tests/moved/run
 	@tests/order/run
 	@tests/definitions/run --fit
-	@said=$$(mktemp); RT_JOBS=$$((2 * $$(nproc))) rt ci 2>&1 | tee "$$said" || { rm -f "$$said"; exit 1; }; mv "$$said" target/verdict
+	@sum=$$(board/build --sum) && tools/gate && board/build --after-ci "$$sum"
 	@tests/versions/run >target/versions && tail -n 1 target/versions
 	@tests/definitions/run
 	@$(MAKE) --no-print-directory board host

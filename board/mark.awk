@@ -13,6 +13,8 @@
 BEGIN {
     if (how == "") how = "store atomic volatile i64 V, ptr P release, align 8"
     quiet = "^(icmp|zext|sext|trunc|br|switch|unreachable|add|sub|mul|udiv|urem|sdiv|srem|and|or|xor|shl|lshr|ashr)$"
+    pair = "[{] i[0-9]+, i[0-9]+ [}]" # two numbers, as a small result: no pointer is in it
+    returns = "(void|ptr|i[0-9]+|" pair ") "
     point("C", "lent", ""); point("unknown", "unknown", ""); flow("unknown", "*lent"); flow("unknown", "*unknown")
 }
 function fail(f, message) { print "mark: " (f ? name[f] : "module") ": " message > "/dev/stderr"; bad = 1 }
@@ -83,7 +85,7 @@ function read_intrinsic(t, callee,   list, m) {
 }
 # A call: its arguments go to the parameters once all functions are read.
 function read_call(t, result,   callee) {
-    if (t !~ /^call ((noundef|zeroext|signext) )*(void|ptr|i[0-9]+) @("[^"]*"|[A-Za-z0-9_.]+)\(.*\)( #[0-9]+)?$/) {
+    if (t !~ "^call ((noundef|zeroext|signext) )*" returns "@(\"[^\"]*\"|[A-Za-z0-9_.]+)[(].*[)]( #[0-9]+)?$") {
         fail(at, "a call that is not known: " t)
         return
     }
@@ -96,6 +98,7 @@ function read_instruction(t, result,   op) {
     if (op == "alloca") point(at " " result, at " " result, "")
     else if (t ~ /^load ptr, ptr [^ ,]+, align [0-9]+(, ![a-z]+ ![0-9]+)*$/) load(place(after(t, ", ptr ")), at " " result)
     else if (t ~ /^load i[0-9]+, ptr [^ ,]+, align [0-9]+(, ![a-z]+ ![0-9]+)*$/) return
+    else if (t ~ "^(load " pair ", ptr [^ ,]+, align [0-9]+|extractvalue " pair " [^ ,]+, [01]|ret " pair " [^ ,]+)$") return
     else if (t ~ /^getelementptr .*, ptr [^ ,]+, /) flow(place(after(t, ", ptr ")), at " " result)
     else if (t ~ /^store (ptr|i[0-9]+) [^ ,]+, ptr [^ ,]+, align [0-9]+$/) {
         # a number may be read again as a pointer, and then leads anywhere
@@ -115,7 +118,7 @@ function read_line(t,   result) {
 function read_define(text,   list, m, k) {
     at = ++functions; name[at] = called(text); number_of[name[at]] = at
     exported[at] = text !~ /^define (internal|private) /
-    if (text !~ /^define ((internal|private|noundef|zeroext|signext) )*(void|ptr|i[0-9]+) @/) fail(at, "a function that is not known: " text)
+    if (text !~ "^define ((internal|private|noundef|zeroext|signext) )*" returns "@") fail(at, "a function that is not known: " text)
     m = arguments(unnamed(text), list)
     if (m < 0) fail(at, "a parameter that is not known: " text)
     for (k = 1; k <= m; k++) { is_pointer[at, k] = list[k] ~ /^ptr /; parameter[at, k] = place(list[k]) }
@@ -156,7 +159,7 @@ function judge(   k, t) {
 function for_riscv64(text) {
     if (text ~ /^target datalayout/) return "target datalayout = \"e-m:e-p:64:64-i64:64-i128:128-n32:64-S128\""
     if (text ~ /^target triple/) return "target triple = \"riscv64-unknown-unknown-elf\""
-    if (text ~ /^attributes /) gsub(/ "(probe-stack|target-cpu)"="[^"]*"/, "", text)
+    if (text ~ /^attributes /) gsub(/ "(probe-stack|stack-probe-size|target-cpu)"="[^"]*"/, "", text)
     else if (text ~ /^define internal /) sub(/( #[0-9]+)? \{$/, " alwaysinline&", text)
     else if (text ~ /^define /) gsub(/ptr noundef/, "ptr noundef align 8", text)
     return text

@@ -31,12 +31,14 @@ edit/lib store_range: edit/lib make
 edit/lib make: monitor/lib edit_open
 monitor/lib edit_open: monitor/lib edit
 monitor/lib edit: api/lib mpt_edit
-api/lib mpt_edit:
+api/lib mpt_edit: api_c/lib mpt_edit
+api_c/lib mpt_edit:
 slots/zero zero_page: slots/lib open_at
 slots/lib open_at: slots/lib open_admitted
 slots/lib open_admitted: slots/lib open
 slots/lib open: api/lib mpt_open
-api/lib mpt_open:
+api/lib mpt_open: api_c/lib mpt_open
+api_c/lib mpt_open:
 """
 
 EXPECTED = {
