@@ -7,7 +7,7 @@ use Rattle.model.specs.Calls.{Outcome, Reply}
 use Rattle.cases.specs.Bench.{bench, small_bench, bad_bench, none, rx, read_write, rwx, ask, ask_of, most, opens, closes, look, look_by, register_at, l2, l1, eight_bytes, free_pages_of, words_stored, top_digit, two_roots, from_before}
 use Rattle.cases.specs.Cases.{AllOf, done, both, marked_cases, other_cases}
 use Rattle.cases.proofs.Compute.{compute, runs}
-use Rattle.cases.proofs.States.{slots5, memory_new, outcome_new, new_is, memory_c, outcome_c, C-is, outcome_f, F-is, memory_g, outcome_g, G-is, outcome_h, H-is, outcome512, D512-is, outcome513, D513-is, outcome_k1, K1-is, outcome_k2, K2-is, outcome_l, L-is, outcome_m, M-is, outcome_m2, M2-is, outcome_n, N-is, outcome_o, O-is, outcome_t, T-is, outcome_w, W-is}
+use Rattle.cases.proofs.States.{slots5, memory_new, outcome_new, new_is, memory_c, outcome_c, C-is, outcome_f, F-is, memory_g, outcome_g, G-is, outcome_h, H-is, outcome512, D512-is, outcome513, D513-is, outcome_k1, K1-is, outcome_k2, K2-is, outcome_l, L-is, outcome_m, M-is, outcome_m2, M2-is, outcome_n, N-is, outcome_o, O-is, outcome_t, T-is, W-is}
 use Rattle.cases.proofs.Answers.{gib, A-load, D-load512, D-load513, D-beside, E-store, E-fetch, E-table, I-load, L-load, L-swapped, P-load, R-load, U-look_frame, U-look_register, V-load, V-own_none, V-beside, V-own, V-lowest, V-close, D-again, I-edit, I-past, J-lent, J-beside, J-none, K-full, K-freed, N-held, N-close, N-first, N-full, P-close, R-close, S-close, U-frame, U-unsound, U-slot, U-range, U-lent, U-open_frame, U-open_unsound, U-open_slot, U-open_sdid, U-close_frame, U-close_unsound, U-close_slot, G-stored, G-free, O-free, S-free, Q-bytes, W-one, W-zero, W-seven, W-empty, W-range, W-lent, W-lent_zero, W-none, W-rx, W-rw, W-full, W-full_rw, W-fetch, W-store, W-close, W-began, W-stays, W-rest}
 
 abbrev reply_of : Outcome → Reply

@@ -4,7 +4,7 @@ use Rattle.model.specs.Numbers.{if◌then◌else◌}
 use Rattle.model.specs.Register.{ppn_of, is_bare, register_ok}
 use Rattle.model.specs.Frame.{Frame, page_of, frame_ok}
 use Rattle.model.specs.Walk.{walk}
-use Rattle.model.specs.Access.{Kind, Answer, refused, allowed, fault, judge}
+use Rattle.model.specs.Access.{Kind, Answer, refused, allowed, judge}
 
 -- The effective privilege
 pub data Privilege : Type 0 where

@@ -11,12 +11,11 @@ use Rattle.model.specs.Frame.{Frame, frame_ok}
 use Rattle.model.specs.Sound.{Slot, roots, sound, free_pages}
 use Rattle.model.specs.Forms.{Request, forms, first_gib}
 use Rattle.model.specs.Stores.{Store, new_pages}
-use Rattle.model.specs.Calls.{Outcome, edited, first_met, register_for, root_of, refuse, bad_range, write_execute, meets_lent, finished, edit_refusal_with, edit_refusal, store_list, made, edit_with, edit_slot}
+use Rattle.model.specs.Calls.{edited, first_met, register_for, root_of, refuse, bad_range, write_execute, meets_lent, finished, edit_refusal_with, edit_refusal, store_list, made, edit_with, edit_slot}
 use Rattle.types.specs.declared.StoresMade.{StoresMade}
 use Rattle.sequence.specs.StoresMade.{StoresMadeIs}
 use Rattle.shapes.specs.Slots.{not_open}
 use Rattle.slots.specs.Outcomes.{outcome_of}
-use Rattle.slots.specs.declared.Outcome as code
 use Rattle.types.specs.declared.Reply.TheVariants.{Edited}
 use Rattle.types.specs.declared.Admission.TheVariants as admission
 use Rattle.types.specs.declared.Refusal.{Refusal}

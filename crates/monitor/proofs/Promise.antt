@@ -33,7 +33,7 @@ use Rattle.slots.specs.declared.Outcome.{Outcome}
 use Rattle.types.specs.declared.Reply.{Reply}
 use Rattle.types.specs.declared.Reply.TheVariants.{Refused, Opened, Closed, Edited}
 use Rattle.monitor.specs.Promise.{Reaches, Call, CrashConsistent, Ending, Kept, Recovers, interrupted, request, reset, returned}
-use Rattle.table.specs.Board.{board, ENTRY-VALUES, frame_of, frame_over}
+use Rattle.table.specs.Board.{ENTRY-VALUES, frame_of, frame_over}
 use Rattle.range.proofs.Lawful.{board_lawful}
 
 -- the parts of an answer

@@ -13,8 +13,7 @@ use Rattle.model.specs.Numbers.{joined}
 use Rattle.model.specs.Entry.{Entry, clean, decode, encode, field_of, perm, table}
 use Rattle.model.specs.Frame.{blocks, lent, space, word_at}
 use Rattle.model.specs.Walk.{entry_at, entry_page, entry_place, found, l2_word, pn0, pn1, pn2, walk}
-use Rattle.model.specs.Lookup.{reads}
-use Rattle.model.specs.Sound.{link_of, sound}
+use Rattle.model.specs.Sound.{link_of}
 use Rattle.model.specs.Forms.{Form, want_table}
 use Rattle.model.specs.Stores.{Store, apply, if_changed, needs_page, store_at, store_l2}
 use Rattle.model.specs.Demands.{IsForm}

@@ -11,8 +11,6 @@ use Rattle.model.specs.Register.{ppn_of}
 use Rattle.model.specs.Entry.{perm}
 use Rattle.model.specs.Frame.{page_of, space}
 use Rattle.model.specs.Walk.{walk}
-use Rattle.model.specs.Lookup.{reads}
-use Rattle.model.specs.Sound.{sound}
 use Rattle.model.specs.Forms.{Form, forms}
 use Rattle.model.specs.Stores.{new_pages}
 use Rattle.model.specs.Demands.{BeforeOrAfter, SamePermissions, calls, stopped, whole}

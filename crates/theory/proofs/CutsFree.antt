@@ -10,7 +10,7 @@ use borrow.Author.Tests.{eqb-true, eq-eqb, ltb-true, lt-ltb, leb-true, le-leb}
 use Rattle.model.specs.Entry.{Entry}
 use Rattle.model.specs.Frame.{blocks}
 use Rattle.model.specs.Walk.{entry_at}
-use Rattle.model.specs.Sound.{link_of, sound}
+use Rattle.model.specs.Sound.{link_of}
 use Rattle.model.specs.Forms.{Form, forms, want_flat, want_pieces, want_table}
 use Rattle.model.specs.Demands.{IsForm, free_count, whole}
 use Rattle.laws.proofs.Choices.{and_both, and_false, and_true, split}

@@ -9,7 +9,7 @@ use lib.ListN.{length}
 use lib.Seq.{take_all}
 use Rattle.model.specs.Layout.{rv32, rv64}
 use Rattle.model.specs.Frame.{Frame}
-use Rattle.model.specs.Sound.{Slot, free_pages, roots, sound}
+use Rattle.model.specs.Sound.{Slot, free_pages, roots}
 use Rattle.model.specs.Forms.{Request}
 use Rattle.model.specs.Stores.{Store, apply}
 use Rattle.model.specs.Calls.{edit_refusal, edit_slot, edit_with, finished, made, root_of, store_list, store_list_with}

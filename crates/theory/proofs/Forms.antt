@@ -10,7 +10,6 @@ use lib.ListN.{length, length-append}
 use borrow.Author.Tests.{eqb-true}
 use Rattle.model.specs.Numbers.{if◌then◌else◌}
 use Rattle.model.specs.Layout.{piece_pages}
-use Rattle.model.specs.Entry.{pieces}
 use Rattle.model.specs.Frame.{Frame, blocks, space}
 use Rattle.model.specs.Walk.{entry_at, piece_of, pn2}
 use Rattle.model.specs.Forms.{Form, Request, after, after_in, all_are, first_gib, form_in, forms, forms_in, forms_of, gib_first, gib_is_one, gibs, piece_start, pieces_are_one, pieces_info, want_flat, want_pieces, want_table}

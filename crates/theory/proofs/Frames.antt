@@ -12,7 +12,6 @@ use lib.Dec.{eqb, leb}
 use lib.ListN.{length}
 use borrow.Author.Tests.{eqb-true, leb-true}
 use Rattle.model.specs.Layout.{Layout, piece_pages}
-use Rattle.model.specs.Entry.{pieces}
 use Rattle.model.specs.Frame.{Frame, blocks, bounds_ok, frame_ok, lent, space}
 use Rattle.model.specs.Walk.{piece_of, pn0, pn1, pn2}
 use Rattle.laws.proofs.Choices.{and_true}

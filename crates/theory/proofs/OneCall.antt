@@ -14,8 +14,6 @@ use Rattle.model.specs.Numbers.{if◌then◌else◌}
 use Rattle.model.specs.Entry.{perm, table}
 use Rattle.model.specs.Frame.{blocks, lent, space, word_at}
 use Rattle.model.specs.Walk.{entry_at, l2_word, pn2, walk}
-use Rattle.model.specs.Lookup.{reads}
-use Rattle.model.specs.Sound.{sound}
 use Rattle.model.specs.Forms.{Form, want_table}
 use Rattle.model.specs.Stores.{Store, apply, block_stores, needs_page, new_pages, stores_from}
 use Rattle.model.specs.Demands.{IsForm}

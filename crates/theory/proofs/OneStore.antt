@@ -12,8 +12,7 @@ use borrow.Author.Tests.{eqb-true, eqb-false, eq-eqb, ltb-true, ltb-false}
 use Rattle.model.specs.Entry.{Entry, clean, decode, field_of, perm, table}
 use Rattle.model.specs.Frame.{Frame, blocks, lent, space, word_at}
 use Rattle.model.specs.Walk.{entry_at, entry_page, entry_place, found, l2_word, pn0, pn1, pn2, walk}
-use Rattle.model.specs.Lookup.{reads}
-use Rattle.model.specs.Sound.{link_of, sound}
+use Rattle.model.specs.Sound.{link_of}
 use Rattle.model.specs.Forms.{Form}
 use Rattle.model.specs.Stores.{new_pages}
 use Rattle.laws.proofs.Choices.{and_both, and_false, and_true, split}

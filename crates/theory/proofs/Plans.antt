@@ -7,7 +7,7 @@ use native.Mathlib.Nat.{add-zero}
 use native.Mathlib.Omega.{arith}
 use lib.ListN.{length, get_or, length-append}
 use Rattle.model.specs.Numbers.{digit, if◌then◌else◌}
-use Rattle.model.specs.Entry.{Entry, perm, pieces}
+use Rattle.model.specs.Entry.{Entry, perm}
 use Rattle.model.specs.Frame.{Frame, blocks, space}
 use Rattle.model.specs.Walk.{entry_at, piece_of, pn2, walk}
 use Rattle.model.specs.Forms.{Form, Request, after, want_flat, want_pieces, want_table}

@@ -12,8 +12,7 @@ use Rattle.model.specs.Layout.{gib_blocks}
 use Rattle.model.specs.Entry.{perm}
 use Rattle.model.specs.Frame.{Frame, blocks, bounds_ok, frame_ok, space}
 use Rattle.model.specs.Walk.{entry_at, pn2, walk}
-use Rattle.model.specs.Lookup.{reads}
-use Rattle.model.specs.Sound.{Slot, free_pages, roots, sound, used}
+use Rattle.model.specs.Sound.{Slot, free_pages, roots, used}
 use Rattle.model.specs.Forms.{Form, Request, after, first_gib, forms, in_range, want_table}
 use Rattle.model.specs.Stores.{apply, new_pages}
 use Rattle.model.specs.Calls.{finished, root_of, store_list, store_list_with}

@@ -1,7 +1,6 @@
 -- `apart::apart` meets its contract: what `admit` refuses, or what `apart_admitted` finds with the marks.
 use mathlib.Core.Path.{refl, sym, ◌∙◌}
 use mathlib.Core.List.{[]}
-use borrow.Author.Rules.{rules}
 use Rattle.model.specs.Apart.{refused_apart, apart_refusal, apart_answer}
 use Rattle.model.specs.Calls.{first_met}
 use Rattle.scan.proofs.Admissions.{admitted, refused_whatever}

@@ -3,7 +3,6 @@ use mathlib.Core.Path.{◌≡◌, sym, ap, ◌∙◌, subst}
 use mathlib.Core.Bool.{true}
 use Prim.Native.Nat.{ℕ, ◌≤◌, ◌<◌}
 use native.Mathlib.Nat.{zero-add}
-use borrow.Author.Rules.{rules}
 use Rattle.model.specs.Frame.{bounds_ok, space}
 use Rattle.laws.proofs.FrameNumbers.{framed}
 use Rattle.sharing.specs.Faults.{some, table_faults}

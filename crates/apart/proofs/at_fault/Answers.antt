@@ -19,9 +19,9 @@ use Rattle.apart.proofs.at_fault.Goals.{After-stands, Start}
 within : (c : Start) → Bounds (frame_of c.args.f c.args.words.now)
 within c = let F = frame_of c.args.f c.args.words.now in bounds F (framed F c.args.words.now c.requires.0.ok_frame).0
 
-is-table : (c : After-stands) → let a = c.args in
+is_table : (c : After-stands) → let a = c.args in
     table_page (frame_of a.f a.words.now) a.words.now a.slots (a.f.first.0 + a.k) ≡ not c.stands.result
-is-table c =
+is_table c =
     let a = c.args in
     table_marked a.f a.words.now a.slots a.free.now c.requires.0 a.k c.requires.1 ∙ ap not (sym c.stands.ensures)
 
@@ -31,7 +31,7 @@ stands-requires c = omega (arith, (within (goal.at.stands-requires c).Start).mos
 pub returns-then-stands : goal.returns-then-stands
 returns-then-stands c =
     let a = c.args in
-    sym (ap some (no_table_page (frame_of a.f a.words.now) a.words.now a.slots (strength_of a.s) _ (is-table (goal.at.returns-then-stands c).After-stands ∙ ap not c.if-stands.true)))
+    sym (ap some (no_table_page (frame_of a.f a.words.now) a.words.now a.slots (strength_of a.s) _ (is_table (goal.at.returns-then-stands c).After-stands ∙ ap not c.if-stands.true)))
 
 pub overflow_add-f : goal.overflow_add-f
 overflow_add-f c = omega (arith, (within (goal.at.overflow_add-f c).Start).room, few_pages c.args.f.paw (within (goal.at.overflow_add-f c).Start).paw_high_lem, c.requires.1)
@@ -43,7 +43,7 @@ pub returns : goal.returns
 returns c =
     let a = c.args in
     let F = frame_of a.f a.words.now in
-    let t = is-table (goal.at.returns c).After-stands ∙ ap not c.if-stands.false in
+    let t = is_table (goal.at.returns c).After-stands ∙ ap not c.if-stands.false in
     let r = c.reached_by.result in
     split (ltb r 8)
     (λ z. z ∙ sym (table_some F a.words.now a.slots (strength_of a.s) _ t r c.reached_by.ensures (ltb-true r 8 z)).0)

@@ -1,19 +1,16 @@
 -- `apart::reached_table` meets its contract: the invariant: nothing is at fault with the pages passed; before and behind the lent pages there is no table page.
 use mathlib.Core.Path.{◌≡◌, sym, ap, ◌∙◌}
-use mathlib.Core.Bool.{Bool, true, false}
-use mathlib.Core.List.{List}
-use Prim.Native.Nat.{ℕ, ◌+◌, ◌-◌, ◌≤◌}
+use mathlib.Core.Bool.{true, false}
+use Prim.Native.Nat.{ℕ, ◌+◌}
 use native.Mathlib.Omega.{arith}
 use lib.Dec.{ltb}
 use borrow.Author.Tests.{ltb-true, ltb-false}
-use Rattle.model.specs.Apart.{Strength}
 use Rattle.model.specs.Frame as model
 use Rattle.model.specs.Frame.{space}
-use Rattle.model.specs.Sound.{Slot}
 use Rattle.laws.proofs.Choices.{split}
 use Rattle.laws.proofs.FrameNumbers.{Bounds, bounds, framed, few_pages}
-use Rattle.sharing.specs.Faults.{some, table_faults}
-use Rattle.sharing.proofs.FirstLaws.{NoneOf, none_at_all, found_next, none_one}
+use Rattle.sharing.specs.Faults.{some}
+use Rattle.sharing.proofs.FirstLaws.{none_at_all, found_next}
 use Rattle.theory.proofs.Memory.{lent_low, lent_high}
 use Rattle.table.specs.Board.{frame_of}
 use Rattle.types.specs.Views.{strength_of}

@@ -1,6 +1,5 @@
 -- `api::mpt_close` meets its contract: the word of what `monitor::close` answers.
 use mathlib.Core.Path.{ap, ◌∙◌}
-use borrow.Author.Rules.{rules}
 use Rattle.api.specs.CallWords.{done_word}
 use Rattle.model.specs.Calls.{Outcome}
 use Rattle.api.proofs.mpt_close.Goals as goal

@@ -1,6 +1,5 @@
 -- `api::mpt_edit` meets its contract: a permission is known by its code, and else nothing is done.
-use mathlib.Core.Path.{◌≡◌, refl, sym, ap, ◌∙◌}
-use borrow.Author.Rules.{rules}
+use mathlib.Core.Path.{◌≡◌, sym, ap, ◌∙◌}
 use Rattle.api.specs.CallWords.{done_word}
 use Rattle.types.specs.Codes.{known, permission_at, permission_code_of}
 use Rattle.model.specs.Calls.{Outcome}

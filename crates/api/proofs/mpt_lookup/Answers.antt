@@ -1,8 +1,5 @@
 -- `api::mpt_lookup` meets its contract: privilege and kind are known by their codes, and else the answer is 255.
-use mathlib.Core.Path.{◌≡◌, refl, sym, ap, ◌∙◌}
-use borrow.Author.Rules.{rules}
-use Rattle.types.specs.Codes.{known, privilege_at, kind_at, privilege_code_of, kind_code_of, answer_word}
-use Rattle.types.specs.Views.{privilege_of, kind_of}
+use mathlib.Core.Path.{sym, ◌∙◌}
 use Rattle.api.proofs.Faults.{fault_of_lookup}
 use Rattle.api.proofs.mpt_lookup.Goals as goal
 

@@ -2,7 +2,6 @@
 use mathlib.Core.Path.{◌≡◌, sym, ap, ◌∙◌}
 use Prim.Native.Nat.{◌/◌}
 use lib.ListN.{length}
-use borrow.Author.Rules.{rules}
 use Rattle.api.specs.CallWords.{sound_word}
 use Rattle.scan.proofs.Admissions.{number_of, admission_number}
 use Rattle.table.specs.Board.{board_frame, PAGE-WORDS}

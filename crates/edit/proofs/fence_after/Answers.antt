@@ -1,7 +1,6 @@
 -- `edit::fence_after` meets its contract: the code's tests are those of the definition, in its order.
 use mathlib.Core.Path.{sym, ◌∙◌}
-use borrow.Author.Tests.{eq-eqb, ne_eqb, not-true, not-false}
-use borrow.Author.Rules.{rules}
+use borrow.Author.Tests.{eq-eqb, ne_eqb}
 use Rattle.sequence.specs.StoresMade.{fence_after}
 use Rattle.edit.proofs.fence_after.Goals as goal
 

@@ -5,7 +5,6 @@ use mathlib.Core.List.{List}
 use Prim.Native.Nat.{◌-◌}
 use native.Mathlib.Omega.{arith}
 use Rattle.model.specs.Frame.{Frame, lent, bounds_ok}
-use borrow.Author.Rules.{rules}
 use Rattle.sequence.proofs.CountAndFence.{all_fits, all_memory, all_count, all_true, all_fence, cut_memory, cut_count, cut_false, cut_fence}
 use Rattle.forms.proofs.BoardShape.{board_shape}
 use Rattle.sequence.proofs.Facts.{root_lent, bounds_in}
@@ -25,9 +24,9 @@ makes_all c =
     let r = c.store_range-progress in
     sym r.ensures ∙ out_whole r.result.all r.result.left r.new.words c.if-all.true
 
-was-cut : (c : Else-all) → let a = c.args in let r = c.store_range-progress in
+was_cut : (c : Else-all) → let a = c.args in let r = c.store_range-progress in
     run (record { more = a.limit; last = 0 }) (whole_list (frame_of a.edit.f a.words.now) a.words.now (request_of a.edit.q) a.edit.root.0 (free_list a.free)) a.words.now ≡ limit_reached r.new.words
-was-cut c =
+was_cut c =
     let r = c.store_range-progress in
     sym r.ensures ∙ out_cut r.result.all r.result.left r.new.words c.if-all.false
 
@@ -77,10 +76,10 @@ returns c =
     let F = frame_of a.edit.f a.words.now in
     let list : List Store = whole_list (frame_of a.edit.f a.words.now) a.words.now (request_of a.edit.q) a.edit.root.0 (free_list a.free) in
     record {
-      memory = cut_memory F (request_of a.edit.q) a.edit.root.0 a.sdid.0 list a.limit a.words.now r.new.words (was-cut (goal.at.returns c).Else-all);
-      count = cut_count F (request_of a.edit.q) a.edit.root.0 a.sdid.0 list a.limit a.words.now r.new.words (was-cut (goal.at.returns c).Else-all);
-      all = cut_false F (request_of a.edit.q) a.edit.root.0 a.sdid.0 list a.limit a.words.now r.new.words (was-cut (goal.at.returns c).Else-all);
+      memory = cut_memory F (request_of a.edit.q) a.edit.root.0 a.sdid.0 list a.limit a.words.now r.new.words (was_cut (goal.at.returns c).Else-all);
+      count = cut_count F (request_of a.edit.q) a.edit.root.0 a.sdid.0 list a.limit a.words.now r.new.words (was_cut (goal.at.returns c).Else-all);
+      all = cut_false F (request_of a.edit.q) a.edit.root.0 a.sdid.0 list a.limit a.words.now r.new.words (was_cut (goal.at.returns c).Else-all);
       fence =
           subst (λ (X : Frame). fence_of c.fence_after-fence-2.result ≡ fence_after X (request_of a.edit.q) a.edit.root.0 a.sdid.0 a.limit false 0) (ap (frame_over a.edit.f) r.auto.words) c.fence_after-fence-2.ensures
-          ∙ cut_fence F (request_of a.edit.q) a.edit.root.0 a.sdid.0 list a.limit a.words.now r.new.words (was-cut (goal.at.returns c).Else-all);
+          ∙ cut_fence F (request_of a.edit.q) a.edit.root.0 a.sdid.0 list a.limit a.words.now r.new.words (was_cut (goal.at.returns c).Else-all);
     }

@@ -4,15 +4,15 @@ use mathlib.Core.List.{List}
 use Rattle.types.specs.declared.Frame.{Frame}
 use Rattle.types.specs.declared.Request as code
 use mathlib.Core.Path.{refl, sym, ◌∙◌}
-use Prim.Native.Nat.{ℕ, ◌-◌}
+use Prim.Native.Nat.{ℕ}
 use native.Mathlib.Omega.{arith}
 use borrow.Author.Tests.{not-true, not-false}
 use Rattle.sequence.proofs.Facts.{Facts, facts}
-use Rattle.sequence.proofs.LoopInvariant.{LoopInvariant, invariant_start, invariant_rooted, invariant_room, invariant_flag, invariant_new_page, invariant_ahead, invariant_cut, invariant_next, invariant_end, invariant_length}
+use Rattle.sequence.proofs.LoopInvariant.{invariant_start, invariant_rooted, invariant_room, invariant_flag, invariant_new_page, invariant_ahead, invariant_cut, invariant_next, invariant_end}
 use Rattle.shapes.proofs.RunLaws.{out_whole, out_cut}
 use Rattle.types.specs.Range.{Fair}
 use Rattle.types.specs.Views.{request_of, free_list}
-use Rattle.table.specs.Board.{frame_of, frame_over}
+use Rattle.table.specs.Board.{frame_of}
 use Rattle.forms.proofs.BoardShape.{board_shape}
 use Rattle.edit.proofs.store_range.Goals as goal
 use Rattle.edit.proofs.store_range.Goals.{After-struct_known-1}

@@ -1,5 +1,4 @@
 -- `lookup::found` meets its contract: each arm is given what the entry is, and the bound that `decode` keeps makes it a permission.
-use borrow.Author.Rules.{rules}
 use Rattle.model.specs.Walk.{found}
 use Rattle.lookup.proofs.found.Goals as goal
 

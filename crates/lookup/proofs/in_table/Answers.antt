@@ -1,7 +1,6 @@
 -- `lookup::in_table` meets its contract: the entry is that of pn[1], and the field that of pn[0].
 use mathlib.Core.Path.{sym, ap, ap₂, ◌∙◌}
 use Prim.Native.Nat.{ℕ}
-use borrow.Author.Rules.{rules}
 use Rattle.model.specs.Entry.{field_of}
 use Rattle.model.specs.Frame.{word_at}
 use Rattle.model.specs.Walk.{found}

@@ -2,7 +2,6 @@
 use mathlib.Core.Path.{◌≡◌, refl, sym, ap, ap₂, ◌∙◌}
 use mathlib.Core.Bool.{false}
 use Prim.Native.Nat.{ℕ}
-use borrow.Author.Rules.{rules}
 use Rattle.model.specs.Numbers.{if◌then◌else◌}
 use Rattle.model.specs.Entry.{Found, perm, faults}
 use Rattle.model.specs.Access.{Kind, Need, read, write, execute, allowed, fault, need_of, original_of, cause_of, may_rows, column_of, may, judge}
@@ -11,16 +10,16 @@ use Rattle.lookup.specs.Granted.{granted_of}
 use Rattle.lookup.proofs.judge.Goals as goal
 use Rattle.lookup.proofs.judge.Goals.{After-may}
 
-none-serves-nothing : (n : Need) → may 0 n ≡ false
+none_serves_nothing : (n : Need) → may 0 n ≡ false
 unfolding may may_rows column_of
-none-serves-nothing read = refl
-none-serves-nothing write = refl
-none-serves-nothing execute = refl
+none_serves_nothing read = refl
+none_serves_nothing write = refl
+none_serves_nothing execute = refl
 
 judged : (f : Found) (k : Kind) → judge f k ≡ (if may (granted_of f) (need_of k) then allowed else fault (cause_of (original_of k)))
 unfolding judge
 judged (perm p) k = refl
-judged faults k = rw none-serves-nothing
+judged faults k = rw none_serves_nothing
 
 -- what was asked of the rows
 asked : (c : After-may) (k : Kind) → let a = c.args in views.need_view a.need ≡ need_of k → may (granted_of (views.found_of a.found)) (need_of k) ≡ c.may.result

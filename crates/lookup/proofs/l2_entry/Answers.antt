@@ -1,6 +1,5 @@
 -- `lookup::l2_entry` meets its contract: where the root is lent, its entry; else nothing.
 use mathlib.Core.Path.{sym, ◌∙◌}
-use borrow.Author.Rules.{rules}
 use Rattle.model.specs.Walk.{entry_at, entry_page}
 use Rattle.lookup.proofs.l2_entry.Goals as goal
 

@@ -1,7 +1,6 @@
 -- `lookup::walk` meets its contract: a page below 2^(PAW-12) lies in one of the blocks that there can be.
 use native.Mathlib.Omega.{arith}
 use borrow.Author.Tests.{lt-ltb, le-ltb}
-use borrow.Author.Rules.{rules}
 use Rattle.model.specs.Walk.{walk, pn2}
 use Rattle.lookup.proofs.walk.Goals as goal
 

@@ -1,13 +1,8 @@
 -- `marks::lowest` meets its contract: the words passed have no mark, and of the first that has one the lowest is found.
-use mathlib.Core.Path.{◌≡◌, refl}
-use mathlib.Core.Bool.{Bool, true, false}
-use mathlib.Core.List.{List}
+use mathlib.Core.Path.{◌≡◌}
+use mathlib.Core.Bool.{false}
 use Prim.Native.Nat.{ℕ, ◌-◌, ◌*◌, ◌≤◌, ◌<◌}
-use native.Mathlib.Omega.{arith}
-use lib.Dec.{ltb}
-use borrow.Author.Tests.{ltb-true, ltb-false}
 use Rattle.marks.specs.Marks.{mark_at}
-use Rattle.marks.proofs.Laws.{clear_word, lowest_stands, none_below}
 use Rattle.marks.proofs.lowest.Given as goal
 
 abbrev pub invariant-loop-i : goal.invariant-loop-i

@@ -1,7 +1,6 @@
 -- `marks::lowest_bit` meets its contract: the lowest set digit is behind the zeros at the word's end.
 use mathlib.Core.Path.{◌≡◌}
 use Prim.Native.Nat.{◌<◌}
-use native.Mathlib.Omega.{arith}
 use lib.Count.{count_trailing_zeros}
 use Rattle.model.specs.Numbers.{digit}
 use Rattle.laws.proofs.BinaryDigits.{lowest_set, lowest_below}

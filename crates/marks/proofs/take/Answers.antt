@@ -1,14 +1,11 @@
 -- `marks::take` meets its contract: bit i % 64 of word i / 64, and where it is set the word without its power.
-use mathlib.Core.Path.{◌≡◌, refl, sym, ap, ◌∙◌, subst}
-use Prim.Native.Nat.{ℕ, ◌-◌, ◌/◌, ◌%◌, ◌≤◌, ◌<◌, ◌^◌}
+use mathlib.Core.Path.{◌≡◌, refl, sym, ap, ◌∙◌}
+use Prim.Native.Nat.{ℕ, ◌-◌, ◌/◌, ◌%◌}
 use native.Mathlib.Nat.{mod-lt}
 use native.Mathlib.Omega.{arith}
 use lib.Dec.{eqb, lit<}
 use lib.ListN.{get_or, set}
-use lib.Pow.{pow_pos}
-use borrow.Author.Rules.{rules}
 use Rattle.model.specs.Numbers.{digit}
-use Rattle.laws.proofs.BinaryDigits.{set_low}
 use Rattle.marks.specs.Marks.{mark_at, unmark}
 use Rattle.marks.proofs.take.Goals as goal
 use Rattle.marks.proofs.take.Goals.{After-word-1, Else-word-bit-eq0}

@@ -1,18 +1,16 @@
 -- `monitor::edit_open` meets its contract: the refusals of range, permission, lent pages and room in their order, and then the stores of an accepted edit.
 use mathlib.Core.Path.{◌≡◌, sym, ap, ◌∙◌, subst, subst₃}
-use mathlib.Core.Bool.{not, false, ◌&&◌}
 use mathlib.Core.List.{List}
 use Prim.Native.Nat.{ℕ, ◌≤◌}
 use native.Mathlib.Omega.{arith}
-use lib.Dec.{eqb, ltb}
+use lib.Dec.{ltb}
 use lib.ListN.{length}
 use borrow.Author.Tests.{lt-ltb, le-ltb}
-use borrow.Author.Rules.{rules}
 use Rattle.types.specs.declared.Frame.{Frame as Board}
 use Rattle.model.specs.Sound.{roots, free_pages}
 use Rattle.model.specs.Forms.{Request}
 use Rattle.model.specs.Stores.{Store}
-use Rattle.model.specs.Calls.{slot_at, register_for, root_of, refuse, bad_range, write_execute, meets_lent, edit_refusal, store_list}
+use Rattle.model.specs.Calls.{slot_at, register_for, root_of, refuse, edit_refusal, store_list}
 use Rattle.laws.proofs.FrameNumbers.{framed}
 use Rattle.types.specs.declared.Free.{Free}
 use Rattle.scan.specs.FreeMarks.{listed}
@@ -24,10 +22,8 @@ use Rattle.sequence.specs.StoresMade.{StoresMadeIs}
 use Rattle.forms.proofs.BoardShape.{board_shape}
 use Rattle.sequence.proofs.Facts.{accepted_list}
 use Rattle.shapes.specs.Rooted.{Rooted}
-use Rattle.monitor.specs.Edits.{InOpenSlot}
 use Rattle.monitor.proofs.EditRefusals.{no_room, edit_range, edit_write_execute, edit_lent, edit_no_room, edit_accepted, edit_done, made_is}
 use Rattle.monitor.proofs.FreePages.{listed_front, listed_short}
-use Rattle.shapes.proofs.SlotLaws.{slot_low}
 use Rattle.monitor.proofs.SlotRoots.{rooted_slot}
 use Rattle.table.specs.Board.{frame_of}
 use Rattle.monitor.proofs.edit_open.Goals as goal

@@ -1,7 +1,6 @@
 -- `slots::close` meets its contract: each return is one of the laws of `Refusals`, by the tests so far.
 use mathlib.Core.Path.{◌≡◌, sym, ap, ◌∙◌}
 use mathlib.Core.Bool.{false}
-use borrow.Author.Rules.{rules}
 use Rattle.model.specs.Calls.{slot_at, refuse}
 use Rattle.scan.specs.Admission.{Admitted}
 use Rattle.scan.proofs.Admissions.{admitted}
@@ -9,7 +8,6 @@ use Rattle.shapes.specs.Slots.{not_open}
 use Rattle.slots.specs.Outcomes.{outcome_of}
 use Rattle.slots.specs.declared.Outcome.{Outcome}
 use Rattle.slots.proofs.Refusals.{close_not_admitted, close_slot_lem, close_done}
-use Rattle.shapes.proofs.SlotLaws.{slot_low}
 use Rattle.table.specs.Board.{frame_of}
 use Rattle.slots.proofs.close.Goals as goal
 use Rattle.slots.proofs.close.Goals.{Else-not_open, In-Granted}

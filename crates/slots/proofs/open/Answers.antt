@@ -1,6 +1,5 @@
 -- `slots::open` meets its contract: what `admit` refuses, or what `open_admitted` does with the marks.
 use mathlib.Core.Path.{sym, ◌∙◌}
-use borrow.Author.Rules.{rules}
 use Rattle.model.specs.Calls.{refuse}
 use Rattle.scan.proofs.Admissions.{admitted}
 use Rattle.slots.proofs.Refusals.{open_not_admitted}

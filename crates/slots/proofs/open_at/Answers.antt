@@ -4,7 +4,6 @@ use mathlib.Core.Path.{sym, ap, ap₂, ◌∙◌}
 use Prim.Native.Nat.{ℕ}
 use native.Mathlib.Omega.{arith}
 use lib.ListN.{set}
-use borrow.Author.Rules.{rules}
 use Rattle.model.specs.Fence.{no_fence}
 use Rattle.model.specs.Calls as calls
 use Rattle.laws.proofs.FrameNumbers.{bounds, lent_in, few_pages}

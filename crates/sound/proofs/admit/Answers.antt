@@ -4,8 +4,6 @@ use mathlib.Core.Path.{◌≡◌, refl, sym, ◌∙◌, subst}
 use mathlib.Core.Bool.{true}
 use mathlib.Core.List.{map}
 use native.Mathlib.Omega.{arith}
-use borrow.Author.Tests.{not-true, not-false}
-use borrow.Author.Rules.{rules}
 use Rattle.model.specs.Frame.{frame_ok}
 use Rattle.model.specs.Sound.{roots, used, sound_slots, sound_table, sound}
 use Rattle.laws.proofs.Choices.{and_both}
@@ -21,51 +19,51 @@ use Rattle.scan.proofs.UsedPages.{place}
 use Rattle.sound.proofs.admit.Goals as goal
 use Rattle.sound.proofs.admit.Goals.{After-registers, After-tables, Else-not-frame_ok, Else-not-tables}
 
-frame-passes : (c : Else-not-frame_ok) → let a = c.args in frame_ok (frame_of a.f a.words.now) a.words.now ≡ true
-frame-passes c = sym c.frame_ok.ensures ∙ c.if-not-frame_ok.false
+frame_passes : (c : Else-not-frame_ok) → let a = c.args in frame_ok (frame_of a.f a.words.now) a.words.now ≡ true
+frame_passes c = sym c.frame_ok.ensures ∙ c.if-not-frame_ok.false
 
 -- what the registers' pass says
-registers-are : (c : After-registers) → let a = c.args in
+registers_are : (c : After-registers) → let a = c.args in
     c.registers.result ≡ sound_slots (frame_of a.f a.words.now) a.slots
-registers-are c =
+registers_are c =
     let a = c.args in
     registers_said (frame_of a.f a.words.now) a.words.now a.slots _ _ c.all_marks-sdids.ensures c.registers.ensures
 
-frame-passes-at-After-tables : (c : After-tables) → let a = c.args in frame_ok (frame_of a.f a.words.now) a.words.now ≡ true
-frame-passes-at-After-tables c = sym c.frame_ok.ensures ∙ c.if-not-frame_ok.false
+frame_passes_at_after_tables : (c : After-tables) → let a = c.args in frame_ok (frame_of a.f a.words.now) a.words.now ≡ true
+frame_passes_at_after_tables c = sym c.frame_ok.ensures ∙ c.if-not-frame_ok.false
 
 -- what the tables' pass says
-tables-are : (c : After-tables) → let a = c.args in let F = frame_of a.f a.words.now in
+tables_are : (c : After-tables) → let a = c.args in let F = frame_of a.f a.words.now in
     (c.tables.result ≡ sound_table F a.words.now (roots F a.slots))
     × (c.tables.result ≡ true → c.tables.new.free ≡ unmark_all all_marks (map (place F) (used F a.words.now (roots F a.slots))))
-tables-are c =
+tables_are c =
     let a = c.args in
-    tables_said (frame_of a.f a.words.now) a.words.now (framed _ _ (frame-passes-at-After-tables c)).0 (omega arith) a.slots _ _ c.all_marks.ensures c.tables.ensures
+    tables_said (frame_of a.f a.words.now) a.words.now (framed _ _ (frame_passes_at_after_tables c)).0 (omega arith) a.slots _ _ c.all_marks.ensures c.tables.ensures
 
 -- what the registers' pass says
-registers-are-at-Else-not-tables : (c : Else-not-tables) → let a = c.args in
+registers_are_at_else_not_tables : (c : Else-not-tables) → let a = c.args in
     c.registers.result ≡ sound_slots (frame_of a.f a.words.now) a.slots
-registers-are-at-Else-not-tables c =
+registers_are_at_else_not_tables c =
     let a = c.args in
     registers_said (frame_of a.f a.words.now) a.words.now a.slots _ _ c.all_marks-sdids.ensures c.registers.ensures
 
-frame-passes-at-Else-not-tables : (c : Else-not-tables) → let a = c.args in frame_ok (frame_of a.f a.words.now) a.words.now ≡ true
-frame-passes-at-Else-not-tables c = sym c.frame_ok.ensures ∙ c.if-not-frame_ok.false
+frame_passes_at_else_not_tables : (c : Else-not-tables) → let a = c.args in frame_ok (frame_of a.f a.words.now) a.words.now ≡ true
+frame_passes_at_else_not_tables c = sym c.frame_ok.ensures ∙ c.if-not-frame_ok.false
 
 -- what the tables' pass says
-tables-are-at-Else-not-tables : (c : Else-not-tables) → let a = c.args in let F = frame_of a.f a.words.now in
+tables_are_at_else_not_tables : (c : Else-not-tables) → let a = c.args in let F = frame_of a.f a.words.now in
     (c.tables.result ≡ sound_table F a.words.now (roots F a.slots))
     × (c.tables.result ≡ true → c.tables.new.free ≡ unmark_all all_marks (map (place F) (used F a.words.now (roots F a.slots))))
-tables-are-at-Else-not-tables c =
+tables_are_at_else_not_tables c =
     let a = c.args in
-    tables_said (frame_of a.f a.words.now) a.words.now (framed _ _ (frame-passes-at-Else-not-tables c)).0 (omega arith) a.slots _ _ c.all_marks.ensures c.tables.ensures
+    tables_said (frame_of a.f a.words.now) a.words.now (framed _ _ (frame_passes_at_else_not_tables c)).0 (omega arith) a.slots _ _ c.all_marks.ensures c.tables.ensures
 
 -- the table is sound
 all_sound : (c : Else-not-tables) → let a = c.args in let F = frame_of a.f a.words.now in
     sound F a.words.now a.slots ≡ true
 unfolding sound
 all_sound c =
-    and_both (sym (registers-are-at-Else-not-tables c) ∙ c.if-not-registers.false) (sym (tables-are-at-Else-not-tables c).0 ∙ c.if-not-tables.false)
+    and_both (sym (registers_are_at_else_not_tables c) ∙ c.if-not-registers.false) (sym (tables_are_at_else_not_tables c).0 ∙ c.if-not-tables.false)
 
 pub returns-then-not-frame_ok : goal.returns-then-not-frame_ok
 unfolding admission_of
@@ -75,19 +73,19 @@ pub returns-then-not-registers : goal.returns-then-not-registers
 unfolding admission_of sound
 returns-then-not-registers c =
     record {
-      answer = rw (frame-passes (goal.at.returns-then-not-registers c).Else-not-frame_ok, sym (registers-are (goal.at.returns-then-not-registers c).After-registers) ∙ c.if-not-registers.true) refl;
+      answer = rw (frame_passes (goal.at.returns-then-not-registers c).Else-not-frame_ok, sym (registers_are (goal.at.returns-then-not-registers c).After-registers) ∙ c.if-not-registers.true) refl;
       marked = λ h. absurd (refused_not_granted h);
     }
 
 pub tables-requires : goal.tables-requires
-tables-requires c = (framed _ _ (frame-passes (goal.at.tables-requires c).Else-not-frame_ok)).0
+tables-requires c = (framed _ _ (frame_passes (goal.at.tables-requires c).Else-not-frame_ok)).0
 
 pub returns-then-not-tables : goal.returns-then-not-tables
 unfolding admission_of sound
 returns-then-not-tables c =
     record {
       answer =
-          rw (frame-passes (goal.at.returns-then-not-tables c).Else-not-frame_ok, sym (registers-are (goal.at.returns-then-not-tables c).After-registers) ∙ c.if-not-registers.false, sym (tables-are (goal.at.returns-then-not-tables c).After-tables).0 ∙ c.if-not-tables.true) refl;
+          rw (frame_passes (goal.at.returns-then-not-tables c).Else-not-frame_ok, sym (registers_are (goal.at.returns-then-not-tables c).After-registers) ∙ c.if-not-registers.false, sym (tables_are (goal.at.returns-then-not-tables c).After-tables).0 ∙ c.if-not-tables.true) refl;
       marked = λ h. absurd (refused_not_granted h);
     }
 
@@ -97,7 +95,7 @@ returns c =
     let a = c.args in
     let F = frame_of a.f a.words.now in
     record {
-      answer = rw (frame-passes (goal.at.returns c).Else-not-frame_ok, all_sound c) refl;
-      marked = λ h. subst (MarkedFree F a.words.now a.slots) (sym ((tables-are (goal.at.returns c).After-tables).1 c.if-not-tables.false))
-          (marked_exactly_when_free F a.words.now a.slots (all_sound c) (omega (arith, (bounds F (framed F _ (frame-passes (goal.at.returns c).Else-not-frame_ok)).0).most)));
+      answer = rw (frame_passes (goal.at.returns c).Else-not-frame_ok, all_sound c) refl;
+      marked = λ h. subst (MarkedFree F a.words.now a.slots) (sym ((tables_are (goal.at.returns c).After-tables).1 c.if-not-tables.false))
+          (marked_exactly_when_free F a.words.now a.slots (all_sound c) (omega (arith, (bounds F (framed F _ (frame_passes (goal.at.returns c).Else-not-frame_ok)).0).most)));
     }

@@ -1,12 +1,9 @@
 -- `sound::all_flat` meets its contract: the invariant: what was gathered, and the rest of the GiB, decide the whole.
 use mathlib.Core.Path.{◌≡◌, refl, sym, ap, ◌∙◌}
 use mathlib.Core.Bool.{Bool, false, ◌&&◌}
-use mathlib.Core.List.{List}
 use Prim.Native.Nat.{ℕ, ◌+◌, ◌-◌, ◌≤◌, ◌<◌}
 use native.Mathlib.Nat.{add-zero}
 use native.Mathlib.Omega.{arith}
-use borrow.Author.Rules.{rules}
-use borrow.Author.Tests.{not-true}
 use lib.Bits.{bit_or}
 use lib.ListN.{get_or}
 use Rattle.model.specs.Layout.{gib_blocks}

@@ -1,20 +1,12 @@
 -- `sound::all_flat` meets its contract: the invariant: what was gathered, and the rest of the GiB, decide the whole.
-use mathlib.Core.Path.{◌≡◌, refl, sym, ap, ◌∙◌}
-use mathlib.Core.Bool.{Bool, false, ◌&&◌}
+use mathlib.Core.Path.{◌≡◌}
+use mathlib.Core.Bool.{Bool, ◌&&◌}
 use mathlib.Core.List.{List}
-use Prim.Native.Nat.{ℕ, ◌+◌, ◌-◌, ◌≤◌, ◌<◌}
-use native.Mathlib.Nat.{add-zero}
-use native.Mathlib.Omega.{arith}
-use borrow.Author.Rules.{rules}
-use borrow.Author.Tests.{not-true}
-use lib.Bits.{bit_or}
+use Prim.Native.Nat.{ℕ, ◌+◌, ◌-◌, ◌≤◌}
 use lib.ListN.{get_or}
 use Rattle.model.specs.Layout.{gib_blocks}
 use Rattle.model.specs.Numbers.{every}
-use Rattle.laws.proofs.Choices.{and-alone}
-use Rattle.laws.proofs.Every.{every_step, every_next, every_none}
 use Rattle.scan.specs.Scan.{flat_word}
-use Rattle.scan.proofs.FlatEntries.{flat_gathered}
 use Rattle.table.specs.Board.{board}
 use Rattle.sound.proofs.all_flat.Given as goal
 

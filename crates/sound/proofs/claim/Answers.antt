@@ -3,7 +3,6 @@ use mathlib.Core.Path.{◌≡◌, sym, ◌∙◌}
 use mathlib.Core.Bool.{true}
 use Prim.Native.Nat.{◌+◌, ◌≤◌, ◌<◌}
 use native.Mathlib.Omega.{arith}
-use borrow.Author.Rules.{rules}
 use Rattle.model.specs.Frame.{lent}
 use Rattle.table.specs.Board.{frame_over}
 use Rattle.laws.proofs.FrameNumbers.{bounds, lent_in}
@@ -12,13 +11,13 @@ use Rattle.scan.proofs.Loops.{unlent_claim}
 use Rattle.sound.proofs.claim.Goals as goal
 use Rattle.sound.proofs.claim.Goals.{Then-is_lent}
 
-lent-here : (c : Then-is_lent) → let a = c.args in lent (frame_over a.f a.n) a.page.0 ≡ true
-lent-here c = sym c.is_lent.ensures ∙ c.if-is_lent.true
+lent_here : (c : Then-is_lent) → let a = c.args in lent (frame_over a.f a.n) a.page.0 ≡ true
+lent_here c = sym c.is_lent.ensures ∙ c.if-is_lent.true
 
 -- the page's place among the marks
 inside : (c : Then-is_lent) → let a = c.args in (a.f.first.0 ≤ a.page.0) × (a.page.0 < a.f.first.0 + 256)
 inside c =
-    let h = lent_in _ _ (lent-here c) in
+    let h = lent_in _ _ (lent_here c) in
     let b = bounds _ c.requires in
     (h.0, omega arith)
 
@@ -30,7 +29,7 @@ take-requires c = let h = inside (goal.at.take-requires c).Then-is_lent in omega
 
 pub returns-then-is_lent : goal.returns-then-is_lent
 unfolding claim_of take_mark
-returns-then-is_lent c = rw (lent-here (goal.at.returns-then-is_lent c).Then-is_lent, c.take.ensures.0, c.take.ensures.1)
+returns-then-is_lent c = rw (lent_here (goal.at.returns-then-is_lent c).Then-is_lent, c.take.ensures.0, c.take.ensures.1)
 
 pub returns : goal.returns
 returns c = unlent_claim _ _ _ (sym c.is_lent.ensures ∙ c.if-is_lent.false)

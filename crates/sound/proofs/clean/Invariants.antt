@@ -1,18 +1,14 @@
 -- `sound::clean` meets its contract: the invariant: what was gathered, tested by the mask, and the rest of the page decide the whole page.
-use mathlib.Core.Path.{◌≡◌, refl, sym, ap, ◌∙◌}
+use mathlib.Core.Path.{◌≡◌}
 use mathlib.Core.Bool.{Bool, ◌&&◌}
 use mathlib.Core.List.{List}
-use Prim.Native.Nat.{ℕ, ◌+◌, ◌-◌, ◌≤◌, ◌<◌}
-use native.Mathlib.Omega.{arith}
-use borrow.Author.Rules.{rules}
-use lib.Bits.{bit_and, bit_or}
+use Prim.Native.Nat.{ℕ, ◌+◌, ◌-◌, ◌≤◌}
+use lib.Bits.{bit_and}
 use lib.Dec.{eqb}
 use lib.ListN.{get_or}
 use Rattle.model.specs.Numbers.{every}
 use Rattle.model.specs.Entry as entry
-use Rattle.laws.proofs.Choices.{and-alone}
-use Rattle.laws.proofs.Every.{every_next, every_none}
-use Rattle.laws.proofs.Reserved.{reserved, gathered}
+use Rattle.laws.proofs.Reserved.{reserved}
 use Rattle.table.specs.Board.{board}
 use Rattle.sound.proofs.clean.Given as goal
 

@@ -1,13 +1,10 @@
 -- `sound::entries` meets its contract: the invariant: the entries that are left, from the marks so far, decide the whole.
 use mathlib.Core.Path.{◌≡◌, sym, ap, ◌∙◌}
-use Prim.Native.Nat.{◌+◌, ◌-◌, ◌≤◌}
+use Prim.Native.Nat.{◌+◌, ◌≤◌}
 use native.Mathlib.Omega.{arith}
-use lib.ListN.{length}
-use borrow.Author.Rules.{rules}
-use borrow.Author.Tests.{not-true, not-false}
 use Rattle.table.specs.Board.{frame_of}
 use Rattle.scan.specs.Scan.{scanned, scan_run, entry_step, word_step}
-use Rattle.scan.proofs.Loops.{left, left_all, left_on, left_stopped, left_none, one_entry}
+use Rattle.scan.proofs.Loops.{left_on, left_stopped, left_none, one_entry}
 use Rattle.sound.proofs.entries.Goals as goal
 use Rattle.sound.proofs.entries.Goals.{After-entry}
 

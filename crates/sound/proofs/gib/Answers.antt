@@ -1,11 +1,7 @@
 -- `sound::gib` meets its contract: entries of the "1G" types leave the marks, and the others are looked at one by one.
-use mathlib.Core.Path.{◌≡◌, sym, ap, ◌∙◌}
-use Prim.Native.Nat.{ℕ, ◌+◌, ◌-◌}
-use native.Mathlib.Omega.{arith}
-use borrow.Author.Rules.{rules}
+use mathlib.Core.Path.{sym, ◌∙◌}
 use Rattle.model.specs.Layout.{gib_blocks}
 use Rattle.table.specs.Board.{frame_of}
-use Rattle.scan.specs.Scan.{scan_run, word_step}
 use Rattle.scan.proofs.FlatEntries.{flat_run}
 use Rattle.sound.proofs.gib.Goals as goal
 

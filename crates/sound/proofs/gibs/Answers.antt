@@ -1,13 +1,11 @@
 -- `sound::gibs` meets its contract: the invariant: the GiBs that are left, one at the least, decide the whole from the marks so far.
 use mathlib.Core.Path.{◌≡◌, sym, ◌∙◌}
-use Prim.Native.Nat.{◌+◌, ◌-◌, ◌%◌, ◌≤◌}
+use Prim.Native.Nat.{◌+◌, ◌-◌}
 use native.Mathlib.Omega.{arith}
-use lib.ListN.{length}
-use borrow.Author.Tests.{not-true, not-false}
 use Rattle.model.specs.Layout.{gib_blocks}
 use Rattle.table.specs.Board.{frame_of}
 use Rattle.scan.specs.Scan.{scan_run, word_step}
-use Rattle.scan.proofs.Loops.{left, left_all, left_on, left_stopped, left_none}
+use Rattle.scan.proofs.Loops.{left, left_on, left_stopped, left_none}
 use Rattle.sound.proofs.gibs.Goals as goal
 use Rattle.sound.proofs.gibs.Goals.{Else-not-gib}
 

@@ -1,7 +1,6 @@
 -- `sound::link` meets its contract: the page was claimed, so it is lent, and its words are those that `clean` reads.
 use mathlib.Core.Path.{ap, ◌∙◌}
 use mathlib.Core.Bool.{Bool}
-use borrow.Author.Rules.{rules}
 use Rattle.table.specs.Board.{board}
 use Rattle.model.specs.Entry as entry
 use Rattle.model.specs.Sound.{clean_page}

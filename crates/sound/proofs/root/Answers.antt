@@ -4,7 +4,6 @@ use mathlib.Core.Bool.{true}
 use Prim.Native.Nat.{ℕ, ◌+◌, ◌-◌, ◌*◌, ◌%◌, ◌<◌, ◌^◌}
 use native.Mathlib.Omega.{arith}
 use lib.Pow.{pow-add, pow_pos}
-use borrow.Author.Rules.{rules}
 use Rattle.model.specs.Frame.{blocks, lent}
 use Rattle.model.specs.Layout.{gib_blocks}
 use Rattle.laws.proofs.FrameNumbers.{bounds}
@@ -18,9 +17,9 @@ is_lent_lem : (c : Then-claim) → let a = c.args in lent (frame_of a.f a.words.
 is_lent_lem c = claimed_lent _ _ _ (rw c.if-claim.true at c.claim.ensures)
 
 -- a root has whole GiBs, one at the least
-whole-gibs : (c : After-block_count-count) → (0 < c.block_count-count.result) × (c.block_count-count.result % gib_blocks ≡ 0)
+whole_gibs : (c : After-block_count-count) → (0 < c.block_count-count.result) × (c.block_count-count.result % gib_blocks ≡ 0)
 unfolding blocks
-whole-gibs c =
+whole_gibs c =
     let paw = c.args.f.paw in
     let e : paw - 25 ≡ paw - 30 + 5 = omega (arith, (bounds _ c.requires).paw_low_lem) in
     let w : c.block_count-count.result ≡ 2 ^ (paw - 30) * gib_blocks = c.block_count-count.ensures.0 ∙ ap (λ (k : ℕ). 2 ^ k) e ∙ pow-add 2 (paw - 30) 5 in
@@ -31,7 +30,7 @@ page_at-at-requires c = is_lent_lem (goal.at.page_at-at-requires c).Then-claim
 
 pub gibs-requires : goal.gibs-requires
 gibs-requires c =
-    let w = whole-gibs (goal.at.gibs-requires c).After-block_count-count in
+    let w = whole_gibs (goal.at.gibs-requires c).After-block_count-count in
     (c.requires, omega (arith, w.0), omega (arith, w.1), omega (arith, c.page_at-at.ensures.1, c.block_count-count.ensures.1))
 
 pub returns-then-claim : goal.returns-then-claim

@@ -1,6 +1,5 @@
 -- `sound::slot` meets its contract: an empty slot claims nothing.
 use borrow.Author.Tests.{eq-eqb, ne_eqb}
-use borrow.Author.Rules.{rules}
 use Rattle.model.specs.Sound.{is_open}
 use Rattle.scan.specs.Scan.{slot_step}
 use Rattle.sound.proofs.slot.Goals as goal

@@ -1,5 +1,4 @@
 -- `apart::crowd::alone` meets its contract: no bit of a piece is set in what is open to the others.
-use mathlib.Core.Bool.{false≢true}
 use borrow.Author.Tests.{eqb-true}
 use Rattle.sharing.proofs.MaskLaws.{none_once}
 use Rattle.table.specs.Board.{EACH-PIECE}

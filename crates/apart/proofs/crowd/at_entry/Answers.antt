@@ -1,15 +1,14 @@
 -- `apart::crowd::at_entry` meets its contract: the invariant: after t of the L1 pages, what the first t of them say is counted.
 use mathlib.Core.Path.{◌≡◌, sym, ap, ap₂, ◌∙◌, subst}
 use mathlib.Core.Bool.{Bool}
-use Prim.Native.Nat.{ℕ, ◌+◌, ◌*◌, ◌-◌, ◌/◌, ◌%◌, ◌≤◌, ◌<◌}
+use Prim.Native.Nat.{ℕ, ◌+◌, ◌*◌, ◌/◌, ◌%◌, ◌<◌}
 use native.Mathlib.Nat.{add-zero}
 use native.Mathlib.Omega.{arith}
-use borrow.Author.Rules.{rules}
-use lib.ListN.{length, get_or}
+use lib.ListN.{get_or}
 use Rattle.sharing.specs.Crowds.{table_opens, table_reaches, entry_for}
 use Rattle.sharing.specs.Masks.{open_bit, reach_bit, one, Counted}
 use Rattle.sharing.proofs.MaskLaws.{table_more}
-use Rattle.table.specs.Board.{board, PAGE-WORDS, FIELDS}
+use Rattle.table.specs.Board.{board, FIELDS}
 use Rattle.types.specs.Views.{strength_of}
 use Rattle.apart.proofs.crowd.at_entry.Goals as goal
 use Rattle.apart.proofs.crowd.at_entry.Goals.{After-add-all}

@@ -1,16 +1,15 @@
 -- `apart::crowd::crowded_page` meets its contract: the invariant: no page of the blocks passed is crowded.
 use mathlib.Core.Path.{◌≡◌, sym, ap, ◌∙◌}
-use Prim.Native.Nat.{ℕ, ◌+◌, ◌*◌, ◌-◌, ◌≤◌}
+use Prim.Native.Nat.{ℕ, ◌+◌, ◌*◌}
 use native.Mathlib.Nat.{zero-add}
 use native.Mathlib.Omega.{arith}
-use borrow.Author.Rules.{rules}
 use Rattle.model.specs.Frame.{space}
 use Rattle.model.specs.Layout.{block_pages}
 use Rattle.laws.proofs.FrameNumbers.{bounds}
 use Rattle.sharing.specs.Crowds.{crowded}
 use Rattle.sharing.specs.First.{First}
 use Rattle.sharing.proofs.CrowdLaws.{blocks_space}
-use Rattle.sharing.proofs.FirstLaws.{NoneOf, none_at_all, none_next, first_found}
+use Rattle.sharing.proofs.FirstLaws.{none_at_all, none_next, first_found}
 use Rattle.table.specs.Board.{frame_of}
 use Rattle.types.specs.Views.{strength_of}
 use Rattle.apart.proofs.crowd.crowded_page.Goals as goal

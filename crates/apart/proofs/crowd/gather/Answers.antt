@@ -1,11 +1,9 @@
 -- `apart::crowd::gather` meets its contract: the invariant: what the slots passed have of the block is gathered.
-use mathlib.Core.Path.{◌≡◌, sym, subst}
-use Prim.Native.Nat.{ℕ, ◌+◌, ◌-◌, ◌≤◌}
+use mathlib.Core.Path.{sym, subst}
+use Prim.Native.Nat.{ℕ, ◌+◌, ◌≤◌}
 use native.Mathlib.Omega.{arith}
-use borrow.Author.Rules.{rules}
 use Rattle.model.specs.Calls.{slot_at}
 use Rattle.shapes.specs.Rooted.{Good}
-use Rattle.sharing.specs.Crowds.{GatheredAll}
 use Rattle.sharing.specs.Masks.{open_bit, reach_bit, one, Counted}
 use Rattle.sharing.proofs.CrowdLaws.{gathered_none, gathered_more, slot_good}
 use Rattle.table.specs.Board.{frame_of}

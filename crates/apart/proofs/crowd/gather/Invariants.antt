@@ -1,17 +1,8 @@
 -- `apart::crowd::gather` meets its contract: the invariant: what the slots passed have of the block is gathered.
-use mathlib.Core.Path.{◌≡◌, sym, subst}
-use Prim.Native.Nat.{ℕ, ◌+◌, ◌-◌, ◌≤◌}
-use native.Mathlib.Omega.{arith}
-use borrow.Author.Rules.{rules}
-use Rattle.model.specs.Calls.{slot_at}
-use Rattle.shapes.specs.Rooted.{Good}
+use Prim.Native.Nat.{◌-◌, ◌≤◌}
 use Rattle.sharing.specs.Crowds.{GatheredAll}
-use Rattle.sharing.specs.Masks.{open_bit, reach_bit, one, Counted}
-use Rattle.sharing.proofs.CrowdLaws.{gathered_none, gathered_more, slot_good}
 use Rattle.table.specs.Board.{frame_of}
-use Rattle.types.specs.declared.Shares.{Shares}
-use Rattle.types.specs.Views.{entry_of, strength_of}
-use Rattle.apart.proofs.GatherLaws.{gather_step, one_start}
+use Rattle.types.specs.Views.{strength_of}
 use Rattle.apart.proofs.crowd.gather.Given as goal
 
 abbrev pub invariant-loop-i : goal.invariant-loop-i

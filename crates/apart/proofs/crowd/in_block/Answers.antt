@@ -1,7 +1,6 @@
 -- `apart::crowd::in_block` meets its contract: what was gathered says which pages are crowded.
 use Prim.Native.Nat.{◌*◌, ◌/◌, ◌<◌}
 use native.Mathlib.Omega.{arith}
-use borrow.Author.Rules.{rules}
 use Rattle.model.specs.Layout.{block_pages}
 use Rattle.sharing.proofs.CrowdLaws.{crowd_gathered, crowd_even, crowd_alone}
 use Rattle.sharing.proofs.FirstLaws.{none_at_all, first_there}

@@ -1,12 +1,9 @@
 -- `apart::crowd::in_piece` meets its contract: the invariant: no page of the entries passed is crowded.
-use mathlib.Core.Path.{◌≡◌, subst}
-use Prim.Native.Nat.{ℕ, ◌+◌, ◌*◌, ◌-◌, ◌≤◌, ◌<◌}
-use native.Mathlib.Omega.{arith}
+use Prim.Native.Nat.{ℕ, ◌*◌, ◌-◌, ◌≤◌, ◌<◌}
 use Rattle.sharing.specs.Crowds.{full_at}
-use Rattle.sharing.specs.First.{First}
 use Rattle.sharing.specs.Masks.{Counted}
-use Rattle.sharing.proofs.FirstLaws.{NoneOf, none_at_all, none_next, first_found}
-use Rattle.table.specs.Board.{board, FIELDS, PIECE-WORDS, PIECE-PAGES}
+use Rattle.sharing.proofs.FirstLaws.{NoneOf}
+use Rattle.table.specs.Board.{board, FIELDS, PIECE-WORDS}
 use Rattle.types.specs.Views.{strength_of}
 use Rattle.apart.proofs.crowd.in_piece.Given as goal
 

@@ -1,17 +1,12 @@
 -- `apart::crowd::in_tables` meets its contract: the invariant: no page of the pieces passed is crowded.
-use mathlib.Core.Path.{◌≡◌, ap, ◌∙◌}
 use mathlib.Core.Bool.{Bool}
 use mathlib.Core.List.{List}
-use Prim.Native.Nat.{ℕ, ◌+◌, ◌*◌, ◌-◌, ◌/◌, ◌≤◌, ◌<◌}
-use native.Mathlib.Omega.{arith}
-use borrow.Author.Rules.{rules}
+use Prim.Native.Nat.{ℕ, ◌*◌, ◌-◌, ◌/◌, ◌≤◌, ◌<◌}
 use Rattle.model.specs.Apart.{Strength}
-use Rattle.model.specs.Layout.{block_pages}
 use Rattle.sharing.specs.Crowds.{full_at}
-use Rattle.sharing.specs.First.{First}
 use Rattle.sharing.specs.Masks.{Counted}
-use Rattle.sharing.proofs.FirstLaws.{NoneOf, none_at_all, none_next, first_found, first_same}
-use Rattle.table.specs.Board.{board, FIELDS, PIECES, PIECE-WORDS, PIECE-PAGES}
+use Rattle.sharing.proofs.FirstLaws.{NoneOf}
+use Rattle.table.specs.Board.{board, PIECES, PIECE-PAGES}
 use Rattle.types.specs.Views.{strength_of}
 use Rattle.apart.proofs.crowd.in_tables.Given as goal
 

@@ -1,6 +1,5 @@
 -- `apart::masks::add` meets its contract: one slot more.
 use Rattle.sharing.proofs.MaskLaws.{counted_more}
-use borrow.Author.Rules.{rules}
 use Rattle.apart.proofs.masks.add.Goals as goal
 
 pub returns : goal.returns

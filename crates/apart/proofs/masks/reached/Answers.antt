@@ -1,7 +1,6 @@
 -- `apart::masks::reached` meets its contract: the upper bit, and for strict either.
 use Rattle.sharing.specs.Masks.{reach_bit}
 use Rattle.sharing.proofs.Bits.{bit_half}
-use borrow.Author.Rules.{rules}
 use Rattle.apart.proofs.masks.reached.Goals as goal
 
 pub returns-in-Strict : goal.returns-in-Strict

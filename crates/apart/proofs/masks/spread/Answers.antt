@@ -1,7 +1,6 @@
 -- `apart::masks::spread` meets its contract: the bit is 0 or 1, and the number that has 1 in each field is taken as often.
 use Rattle.apart.proofs.EachBits.{spread_bit}
 use Prim.Native.Nat.{◌*◌}
-use borrow.Author.Rules.{rules}
 use Rattle.apart.proofs.masks.spread.Goals as goal
 
 pub returns : goal.returns

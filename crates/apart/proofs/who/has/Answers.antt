@@ -6,7 +6,6 @@ use Rattle.model.specs.Forms.{perm_of}
 use Rattle.model.specs.Sound.{is_open}
 use Rattle.lookup.specs.Granted.{granted_of}
 use Rattle.sharing.specs.Faults.{slot_grants}
-use borrow.Author.Rules.{rules}
 use Rattle.apart.proofs.who.has.Goals as goal
 
 -- a walk that faults serves no access, and neither does none

@@ -1,19 +1,13 @@
 -- `apart::who::pair_fault` meets its contract: the invariant: no slot passed is the lower of two that share the page so.
-use mathlib.Core.Path.{◌≡◌, sym, ap, ap₂, ◌∙◌}
-use mathlib.Core.Bool.{Bool, ◌||◌}
+use mathlib.Core.Bool.{Bool}
 use mathlib.Core.List.{List}
 use Prim.Native.Nat.{ℕ, ◌-◌, ◌≤◌}
-use native.Mathlib.Omega.{arith}
-use borrow.Author.Rules.{rules}
-use Rattle.model.specs.Access.{write}
-use Rattle.model.specs.Apart.{Strength, page_shared, grants}
-use Rattle.model.specs.Calls.{slot_at}
-use Rattle.model.specs.Entry.{perm}
+use Rattle.model.specs.Apart.{Strength}
 use Rattle.model.specs.Frame.{Frame}
 use Rattle.model.specs.Sound.{Slot}
 use Rattle.sharing.specs.Faults.{some}
-use Rattle.sharing.proofs.PairFaults.{row, row_some, row_none, rows_head, rows_none}
-use Rattle.sharing.proofs.FirstLaws.{NoneOf, none_at_all, found_next, none_one}
+use Rattle.sharing.proofs.PairFaults.{row}
+use Rattle.sharing.proofs.FirstLaws.{NoneOf}
 use Rattle.table.specs.Board.{frame_of}
 use Rattle.types.specs.Views.{strength_of}
 use Rattle.apart.proofs.who.pair_fault.Given as goal

@@ -1,18 +1,12 @@
 -- `apart::who::partner` meets its contract: the invariant: no slot passed shares the page so.
-use mathlib.Core.Path.{◌≡◌, refl, sym, ap₂, ◌∙◌}
 use mathlib.Core.Bool.{Bool}
 use mathlib.Core.List.{List}
-use Prim.Native.Nat.{ℕ, ◌+◌, ◌-◌, ◌≤◌, ◌<◌}
-use native.Mathlib.Omega.{arith}
-use borrow.Author.Rules.{rules}
-use borrow.Author.Tests.{lt-ltb, le-ltb}
+use Prim.Native.Nat.{ℕ, ◌-◌, ◌≤◌, ◌<◌}
 use Rattle.model.specs.Apart.{Strength, pair_fault}
-use Rattle.model.specs.Calls.{slot_at}
 use Rattle.model.specs.Frame.{Frame}
 use Rattle.model.specs.Sound.{Slot}
-use Rattle.sharing.specs.Faults.{some, meet}
-use Rattle.sharing.proofs.PairFaults.{pair_meets}
-use Rattle.sharing.proofs.FirstLaws.{NoneOf, none_at_all, found_next, none_one}
+use Rattle.sharing.specs.Faults.{some}
+use Rattle.sharing.proofs.FirstLaws.{NoneOf}
 use Rattle.table.specs.Board.{frame_of}
 use Rattle.types.specs.Views.{strength_of}
 use Rattle.apart.proofs.who.partner.Given as goal

@@ -1,18 +1,11 @@
 -- `apart::who::reached_by` meets its contract: the invariant: no slot passed reaches the page.
-use mathlib.Core.Path.{◌≡◌, sym, ap, ◌∙◌}
 use mathlib.Core.Bool.{Bool}
 use mathlib.Core.List.{List}
 use Prim.Native.Nat.{ℕ, ◌-◌, ◌≤◌}
-use native.Mathlib.Omega.{arith}
-use borrow.Author.Rules.{rules}
 use Rattle.model.specs.Apart.{Strength, reaches, by_slot}
-use Rattle.model.specs.Calls.{slot_at}
-use Rattle.model.specs.Entry.{perm}
 use Rattle.model.specs.Frame.{Frame}
 use Rattle.model.specs.Sound.{Slot}
-use Rattle.sharing.specs.Crowds.{reach_of}
-use Rattle.sharing.proofs.SlotRights.{slot_reaches}
-use Rattle.sharing.proofs.FirstLaws.{NoneOf, none_at_all, found_next, none_one}
+use Rattle.sharing.proofs.FirstLaws.{NoneOf}
 use Rattle.table.specs.Board.{frame_of}
 use Rattle.types.specs.Views.{strength_of}
 use Rattle.apart.proofs.who.reached_by.Given as goal

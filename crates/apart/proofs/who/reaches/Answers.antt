@@ -1,6 +1,5 @@
 -- `apart::who::reaches` meets its contract: a strength for each arm.
 use Rattle.sharing.specs.Crowds.{reach_of}
-use borrow.Author.Rules.{rules}
 use Rattle.apart.proofs.who.reaches.Goals as goal
 
 pub returns-in-Strict : goal.returns-in-Strict

@@ -2,7 +2,6 @@
 use mathlib.Core.Path.{sym, ap, ◌∙◌}
 use mathlib.Core.List.{List, head_d}
 use Prim.Native.Nat.{ℕ}
-use borrow.Author.Rules.{rules}
 use Rattle.model.specs.Access.{write}
 use Rattle.model.specs.Apart.{Separation, apart, table_open, grants}
 use Rattle.model.specs.Calls.{slot_at}

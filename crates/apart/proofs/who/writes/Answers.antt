@@ -1,6 +1,5 @@
 -- `apart::who::writes` meets its contract.
 use Rattle.model.specs.Apart.{grants}
-use borrow.Author.Rules.{rules}
 use Rattle.apart.proofs.who.writes.Goals as goal
 
 pub returns : goal.returns

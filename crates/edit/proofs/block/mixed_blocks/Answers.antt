@@ -40,9 +40,9 @@ outside p = p.blocks_outside-n.result
 abbrev NoTable : (p : After-page_at) → ℕ → Type 0
 NoTable p n = let a = p.args in (k : ℕ) → p.page_at.result + a.b ≤ k → k < p.page_at.result + a.b + n → word_as_pieces board (get_or a.words.now k 0) ≡ 0 → ⊥
 
-entries-here : (p : After-page_at) (n : ℕ) → let a = p.args in
+entries_here : (p : After-page_at) (n : ℕ) → let a = p.args in
     n ≤ outside p → NoTable p n → (x : ℕ) → a.b ≤ x → x < a.b + n → Entrywise (frame_of a.edit.f a.words.now) a.words.now (request_of a.edit.q) a.edit.root.0 a.gib (word_as_pieces board) x
-entries-here p n few some x lo hi =
+entries_here p n few some x lo hi =
     let a = p.args in
     let m = a.words.now in
     let F = frame_of a.edit.f m in
@@ -59,7 +59,7 @@ row_here p n few some =
     let m = a.words.now in
     let F = frame_of a.edit.f m in
     ap (row_stores m (word_as_pieces board) n) (place F a.edit.root.0 a.b _ p.page_at.ensures.0)
-    ∙ sym (row_stores_lem F m (request_of a.edit.q) a.edit.root.0 a.gib (word_as_pieces board) n a.b (drop a.next (free_list a.free)) (entries-here p n few some))
+    ∙ sym (row_stores_lem F m (request_of a.edit.q) a.edit.root.0 a.gib (word_as_pieces board) n a.b (drop a.next (free_list a.free)) (entries_here p n few some))
 
 pub pieces_row-row-requires : goal.pieces_row-row-requires
 pieces_row-row-requires c =
@@ -94,7 +94,7 @@ returns c =
     let n = r.result.count in
     record {
       made = r.ensures.2 ∙ ap (λ (ss : List Store). run a.left ss m) (row_here (goal.at.returns c).After-page_at n r.ensures.0 r.ensures.1);
-      pages = omega (arith, row_pages F m (request_of a.edit.q) a.edit.root.0 a.gib (word_as_pieces board) n a.b (entries-here (goal.at.returns c).After-page_at n r.ensures.0 r.ensures.1));
+      pages = omega (arith, row_pages F m (request_of a.edit.q) a.edit.root.0 a.gib (word_as_pieces board) n a.b (entries_here (goal.at.returns c).After-page_at n r.ensures.0 r.ensures.1));
       some = omega (arith, c.if-row-eq0.false);
       within = omega (arith, c.blocks_outside-n.ensures.0, r.ensures.0);
     }

@@ -8,7 +8,6 @@ use lib.ListN.{drop}
 use Rattle.model.specs.Stores.{Store, block_stores, needs_page}
 use Rattle.model.specs.Forms.{Form, form_in}
 use Rattle.model.specs.Frame.{lent}
-use borrow.Author.Rules.{rules}
 use Rattle.forms.proofs.BoardShape.{board_shape}
 use Rattle.shapes.proofs.BlockLaws.{form_encodes, over_one, pages_one}
 use Rattle.shapes.specs.Blocks.{Encodes, form_in_gib, stores_in_gib, stores_over}
@@ -22,20 +21,20 @@ use Rattle.table.specs.Board.{board, frame_of}
 use Rattle.edit.proofs.block.one_block.Goals as goal
 use Rattle.edit.proofs.block.one_block.Goals.{After-block_form-form, After-entry_at-e, After-page_from-new}
 
-good-here : (c : After-entry_at-e) → let a = c.args in Good (frame_of a.edit.f a.words.now) a.words.now (entry_of c.entry_at-e.result)
-good-here c =
+good_here : (c : After-entry_at-e) → let a = c.args in Good (frame_of a.edit.f a.words.now) a.words.now (entry_of c.entry_at-e.result)
+good_here c =
     subst (Good (frame_of c.args.edit.f c.args.words.now) c.args.words.now) (sym c.entry_at-e.ensures.0) (c.requires.0.good c.args.b c.requires.1)
 
-form-here : (c : After-block_form-form) → let a = c.args in
+form_here : (c : After-block_form-form) → let a = c.args in
     form_of c.block_form-form.result ≡ form_in_gib (frame_of a.edit.f a.words.now) a.words.now (request_of a.edit.q) a.edit.root.0 a.gib a.b
-form-here c =
+form_here c =
     let a = c.args in
     c.block_form-form.ensures
     ∙ ap (λ (e : Entry). form_in (frame_of a.edit.f a.words.now) a.words.now (request_of a.edit.q) a.gib.one a.gib.p e a.b) c.entry_at-e.ensures.0
 
-form-here-at-After-page_from-new : (c : After-page_from-new) → let a = c.args in
+form_here_at_after_page_from_new : (c : After-page_from-new) → let a = c.args in
     form_of c.block_form-form.result ≡ form_in_gib (frame_of a.edit.f a.words.now) a.words.now (request_of a.edit.q) a.edit.root.0 a.gib a.b
-form-here-at-After-page_from-new c =
+form_here_at_after_page_from_new c =
     let a = c.args in
     c.block_form-form.ensures
     ∙ ap (λ (e : Entry). form_in (frame_of a.edit.f a.words.now) a.words.now (request_of a.edit.q) a.gib.one a.gib.p e a.b) c.entry_at-e.ensures.0
@@ -47,22 +46,21 @@ block_here : (p : After-page_from-new) → let a = p.args in
 block_here p =
     let a = p.args in
     let F = frame_of a.edit.f a.words.now in
-    ap₂ (λ (x : Form) (e : Entry). block_stores F a.words.now (request_of a.edit.q) a.edit.root.0 x e a.b p.page_from-new.result.0) (form-here-at-After-page_from-new p) p.entry_at-e.ensures.0
+    ap₂ (λ (x : Form) (e : Entry). block_stores F a.words.now (request_of a.edit.q) a.edit.root.0 x e a.b p.page_from-new.result.0) (form_here_at_after_page_from_new p) p.entry_at-e.ensures.0
     ∙ ap (stores_in_gib F a.words.now (request_of a.edit.q) a.edit.root.0 a.gib a.b) p.page_from-new.ensures
     ∙ sym (over_one F a.words.now (request_of a.edit.q) a.edit.root.0 a.gib a.b (drop a.next (free_list a.free)))
 
 pub store_block-progress-requires : goal.store_block-progress-requires
 store_block-progress-requires c =
-    let a = c.args in
-    (
+    let a = c.args in (
       omega (arith, c.requires.0.few, c.requires.1),
       c.requires.2,
-      good-here (goal.at.store_block-progress-requires c).After-entry_at-e,
+      good_here (goal.at.store_block-progress-requires c).After-entry_at-e,
       c.requires.0.is_lent,
-      λ z. let y = c.requires.5 (sym (ap₂ (λ (x : Form) (e : Entry). needs_page x e) (form-here (goal.at.store_block-progress-requires c).After-block_form-form) c.entry_at-e.ensures.0) ∙ z) in
+      λ z. let y = c.requires.5 (sym (ap₂ (λ (x : Form) (e : Entry). needs_page x e) (form_here (goal.at.store_block-progress-requires c).After-block_form-form) c.entry_at-e.ensures.0) ∙ z) in
           subst (λ (n : ℕ). (lent (frame_of a.edit.f a.words.now) n ≡ true) × (n < 2 ^ board.info_bits)) (sym c.page_from-new.ensures) y,
       subst (Encodes board) (sym c.block_form-form.ensures)
-          (form_encodes (frame_of a.edit.f a.words.now) board_shape a.words.now (request_of a.edit.q) c.requires.2.small (entry_of c.entry_at-e.result) (good-here (goal.at.store_block-progress-requires c).After-entry_at-e) a.gib.one a.gib.p a.b c.requires.3),
+          (form_encodes (frame_of a.edit.f a.words.now) board_shape a.words.now (request_of a.edit.q) c.requires.2.small (entry_of c.entry_at-e.result) (good_here (goal.at.store_block-progress-requires c).After-entry_at-e) a.gib.one a.gib.p a.b c.requires.3),
       ahead_of (sym (block_here (goal.at.store_block-progress-requires c).After-page_from-new)) c.requires.6,
     )
 
@@ -75,7 +73,7 @@ returns c =
           c.store_block-progress.ensures ∙ ap (λ (ss : List Store). run a.left ss a.words.now) (block_here (goal.at.returns c).After-page_from-new);
       pages =
           c.next_page-after.ensures
-          ∙ ap₂ (λ (x : Form) (e : Entry). if needs_page x e then a.next + 1 else a.next) (form-here (goal.at.returns c).After-block_form-form) c.entry_at-e.ensures.0
+          ∙ ap₂ (λ (x : Form) (e : Entry). if needs_page x e then a.next + 1 else a.next) (form_here (goal.at.returns c).After-block_form-form) c.entry_at-e.ensures.0
           ∙ sym (pages_one F a.words.now (request_of a.edit.q) a.edit.root.0 a.gib a.b a.next);
       some = omega arith;
       within = omega arith;

@@ -1,11 +1,7 @@
 -- `edit::block::store_block` meets its contract: the finished form says which stores there are: that of the entry, if it changes, or those of the
 -- L1 page.
-use Prim.Native.Nat.{◌<◌}
-use native.Mathlib.Omega.{arith}
-use borrow.Author.Rules.{rules}
 use Rattle.model.specs.Entry.{encode}
 use Rattle.model.specs.Stores.{block_stores}
-use Rattle.table.specs.Board.{PIECE-INFO}
 use Rattle.edit.proofs.block.store_block.Goals as goal
 
 pub put_entry-requires : goal.put_entry-requires

@@ -1,10 +1,8 @@
 -- `edit::block::store_table` meets its contract: a block that has an L1 page keeps it, and any other gets a new one.
 use mathlib.Core.Path.{◌≡◌, refl, sym, ap, ◌∙◌}
 use mathlib.Core.Bool.{true}
-use mathlib.Core.List.{List, [], ◌∷◌}
+use mathlib.Core.List.{List}
 use Prim.Native.Nat.{ℕ}
-use native.Mathlib.Omega.{arith}
-use borrow.Author.Rules.{rules}
 use Rattle.shapes.specs.Pages.{Plain}
 use Rattle.shapes.specs.Run.{run}
 use Rattle.shapes.proofs.Order.{ahead_of}
@@ -28,19 +26,19 @@ plain_of (Table t) h = absurd (h t refl)
 plain_of Invalid h = tt
 
 -- so it needs one, and its stores are those that fill and link it
-plain-needs : (e : entry.Entry) → Plain e → needs_page want_table e ≡ true
+plain_needs : (e : entry.Entry) → Plain e → needs_page want_table e ≡ true
 unfolding needs_page
-plain-needs (entry.flat p) h = refl
-plain-needs (entry.pieces i) h = refl
-plain-needs (entry.table t) h = absurd h
-plain-needs entry.invalid h = refl
+plain_needs (entry.flat p) h = refl
+plain_needs (entry.pieces i) h = refl
+plain_needs (entry.table t) h = absurd h
+plain_needs entry.invalid h = refl
 
-plain-stores : (F : Frame) (m : List ℕ) (q : Request) (root : ℕ) (e : entry.Entry) (b new : ℕ) → Plain e → block_stores F m q root want_table e b new ≡ link_table F m q root e b new
+plain_stores : (F : Frame) (m : List ℕ) (q : Request) (root : ℕ) (e : entry.Entry) (b new : ℕ) → Plain e → block_stores F m q root want_table e b new ≡ link_table F m q root e b new
 unfolding block_stores
-plain-stores F m q root (entry.flat p) b new h = refl
-plain-stores F m q root (entry.pieces i) b new h = refl
-plain-stores F m q root (entry.table t) b new h = absurd h
-plain-stores F m q root entry.invalid b new h = refl
+plain_stores F m q root (entry.flat p) b new h = refl
+plain_stores F m q root (entry.pieces i) b new h = refl
+plain_stores F m q root (entry.table t) b new h = absurd h
+plain_stores F m q root entry.invalid b new h = refl
 
 plain_here : (c : In_default) → Plain (entry_of c.args.e)
 plain_here c = plain_of c.args.e c.in_default.not-Table
@@ -58,7 +56,7 @@ pub link_table-requires : goal.link_table-requires
 link_table-requires c =
     let a = c.args in
     let plain = plain_here (goal.at.link_table-requires c).In_default in
-    let new = c.requires.4 (plain-needs (entry_of a.e) plain) in (
+    let new = c.requires.4 (plain_needs (entry_of a.e) plain) in (
       c.requires.0,
       c.requires.1,
       c.requires.2,
@@ -66,7 +64,7 @@ link_table-requires c =
       plain,
       c.requires.3,
       new.1,
-      ahead_of (plain-stores (frame_of a.edit.f a.words.now) a.words.now (request_of a.edit.q) a.edit.root.0 (entry_of a.e) a.b a.new.0 plain) c.requires.5,
+      ahead_of (plain_stores (frame_of a.edit.f a.words.now) a.words.now (request_of a.edit.q) a.edit.root.0 (entry_of a.e) a.b a.new.0 plain) c.requires.5,
     )
 
 pub returns : goal.returns
@@ -74,4 +72,4 @@ returns c =
     let a = c.args in
     c.link_table.ensures
     ∙ ap (λ (ss : List Store). run a.left ss a.words.now)
-    (sym (plain-stores (frame_of a.edit.f a.words.now) a.words.now (request_of a.edit.q) a.edit.root.0 (entry_of a.e) a.b a.new.0 (plain_here (goal.at.returns c).In_default)))
+    (sym (plain_stores (frame_of a.edit.f a.words.now) a.words.now (request_of a.edit.q) a.edit.root.0 (entry_of a.e) a.b a.new.0 (plain_here (goal.at.returns c).In_default)))

@@ -15,7 +15,6 @@ use Rattle.shapes.specs.Run.{out, run}
 use Rattle.types.specs.declared.Budget.{Budget}
 use Rattle.model.specs.Stores.{Store, new_table}
 use Rattle.types.specs.Views.{entry_of, request_of}
-use borrow.Author.Rules.{rules}
 use Rattle.entries.proofs.fresh.fill_page.Goals as goal
 use Rattle.entries.proofs.fresh.fill_page.Goals.{After-near_end-to, After-new_entries-near, Else-not-below, Else-not-near}
 
@@ -49,92 +48,92 @@ abbrev On-at-Else-not-below : (n : Else-not-below) → Budget → List ℕ → L
 On-at-Else-not-below n more m rest = let a = n.args in Remaining a.left a.words.now (new_table (frame_of a.edit.f a.words.now) a.words.now (request_of a.edit.q) (entry_of a.new.e) a.new.b a.new.page.0) more m rest
 
 -- the stores of the entries from i on, as many as n; and of the whole page
-abbrev part-at-Else-not-below : (n : Else-not-below) → ℕ → ℕ → List Store
-part-at-Else-not-below n count i = let a = n.args in new_run (frame_of a.edit.f a.words.now) a.words.now (request_of a.edit.q) (entry_of a.new.e) a.new.b a.new.page.0 count i
+abbrev part_at_else_not_below : (n : Else-not-below) → ℕ → ℕ → List Store
+part_at_else_not_below n count i = let a = n.args in new_run (frame_of a.edit.f a.words.now) a.words.now (request_of a.edit.q) (entry_of a.new.e) a.new.b a.new.page.0 count i
 
-abbrev to'-at-Else-not-below : (n : Else-not-below) → ℕ
-to'-at-Else-not-below n = n.near_end-to.result
+abbrev to'_at_else_not_below : (n : Else-not-below) → ℕ
+to'_at_else_not_below n = n.near_end-to.result
 
-abbrev from'-at-Else-not-below : (n : Else-not-below) → ℕ
-from'-at-Else-not-below n = n.first_entry-from.result
+abbrev from'_at_else_not_below : (n : Else-not-below) → ℕ
+from'_at_else_not_below n = n.first_entry-from.result
 
--- before the first-at-Else-not-below part, the second and the third
-first-at-Else-not-below : (n : Else-not-below) → let a = n.args in On-at-Else-not-below n a.left a.words.now (part-at-Else-not-below n (from'-at-Else-not-below n - 0) 0 ++ (part-at-Else-not-below n (to'-at-Else-not-below n - from'-at-Else-not-below n) (from'-at-Else-not-below n) ++ part-at-Else-not-below n (PAGE-WORDS - to'-at-Else-not-below n) (to'-at-Else-not-below n)))
-first-at-Else-not-below n =
+-- before the first_at_else_not_below part, the second and the third
+first_at_else_not_below : (n : Else-not-below) → let a = n.args in On-at-Else-not-below n a.left a.words.now (part_at_else_not_below n (from'_at_else_not_below n - 0) 0 ++ (part_at_else_not_below n (to'_at_else_not_below n - from'_at_else_not_below n) (from'_at_else_not_below n) ++ part_at_else_not_below n (PAGE-WORDS - to'_at_else_not_below n) (to'_at_else_not_below n)))
+first_at_else_not_below n =
     let a = n.args in
-    remaining_start (run_parts (frame_of a.edit.f a.words.now) a.words.now (request_of a.edit.q) (entry_of a.new.e) a.new.b a.new.page.0 (from'-at-Else-not-below n) (to'-at-Else-not-below n) n.near_end-to.ensures.0 n.near_end-to.ensures.1) n.requires.5
+    remaining_start (run_parts (frame_of a.edit.f a.words.now) a.words.now (request_of a.edit.q) (entry_of a.new.e) a.new.b a.new.page.0 (from'_at_else_not_below n) (to'_at_else_not_below n) n.near_end-to.ensures.0 n.near_end-to.ensures.1) n.requires.5
 
-second : (el : Else-not-below) → On-at-Else-not-below el el.old_entries-below.result.left el.old_entries-below.new.words (part-at-Else-not-below el (to'-at-Else-not-below el - from'-at-Else-not-below el) (from'-at-Else-not-below el) ++ part-at-Else-not-below el (PAGE-WORDS - to'-at-Else-not-below el) (to'-at-Else-not-below el))
+second : (el : Else-not-below) → On-at-Else-not-below el el.old_entries-below.result.left el.old_entries-below.new.words (part_at_else_not_below el (to'_at_else_not_below el - from'_at_else_not_below el) (from'_at_else_not_below el) ++ part_at_else_not_below el (PAGE-WORDS - to'_at_else_not_below el) (to'_at_else_not_below el))
 second el =
     let r = el.old_entries-below in
-    remaining_next (first-at-Else-not-below el) _ _ refl (sym (progress_all r.result r.new.words el.if-not-below.false) ∙ r.ensures)
+    remaining_next (first_at_else_not_below el) _ _ refl (sym (progress_all r.result r.new.words el.if-not-below.false) ∙ r.ensures)
 
 -- the stores of the entries from i on, as many as n; and of the whole page
-abbrev part-at-After-new_entries-near : (n : After-new_entries-near) → ℕ → ℕ → List Store
-part-at-After-new_entries-near n count i = let a = n.args in new_run (frame_of a.edit.f a.words.now) a.words.now (request_of a.edit.q) (entry_of a.new.e) a.new.b a.new.page.0 count i
+abbrev part_at_after_new_entries_near : (n : After-new_entries-near) → ℕ → ℕ → List Store
+part_at_after_new_entries_near n count i = let a = n.args in new_run (frame_of a.edit.f a.words.now) a.words.now (request_of a.edit.q) (entry_of a.new.e) a.new.b a.new.page.0 count i
 
-abbrev to'-at-After-new_entries-near : (n : After-new_entries-near) → ℕ
-to'-at-After-new_entries-near n = n.near_end-to.result
+abbrev to'_at_after_new_entries_near : (n : After-new_entries-near) → ℕ
+to'_at_after_new_entries_near n = n.near_end-to.result
 
-abbrev from'-at-After-new_entries-near : (n : After-new_entries-near) → ℕ
-from'-at-After-new_entries-near n = n.first_entry-from.result
+abbrev from'_at_after_new_entries_near : (n : After-new_entries-near) → ℕ
+from'_at_after_new_entries_near n = n.first_entry-from.result
 
 -- the same stores follow from the memory that stands
-same_part-at-After-new_entries-near : (n : After-new_entries-near) (m : List ℕ) → let a = n.args in length m ≡ length a.words.now → (count i : ℕ)
-    → new_run (frame_of a.edit.f m) m (request_of a.edit.q) (entry_of a.new.e) a.new.b a.new.page.0 count i ≡ part-at-After-new_entries-near n count i
-same_part-at-After-new_entries-near n m len count i =
+same_part_at_after_new_entries_near : (n : After-new_entries-near) (m : List ℕ) → let a = n.args in length m ≡ length a.words.now → (count i : ℕ)
+    → new_run (frame_of a.edit.f m) m (request_of a.edit.q) (entry_of a.new.e) a.new.b a.new.page.0 count i ≡ part_at_after_new_entries_near n count i
+same_part_at_after_new_entries_near n m len count i =
     let a = n.args in
     run_same (frame_over a.edit.f) (request_of a.edit.q) (entry_of a.new.e) a.new.b a.new.page.0 m a.words.now n.requires.4 len count i
 
 -- what the second part made, from the memory that the call found
 said : (ne : After-new_entries-near) → let t = ne.new_entries-near in
-    out t.result.all t.result.left t.new.words ≡ run ne.old_entries-below.result.left (part-at-After-new_entries-near ne (to'-at-After-new_entries-near ne - from'-at-After-new_entries-near ne) (from'-at-After-new_entries-near ne)) ne.old_entries-below.new.words
+    out t.result.all t.result.left t.new.words ≡ run ne.old_entries-below.result.left (part_at_after_new_entries_near ne (to'_at_after_new_entries_near ne - from'_at_after_new_entries_near ne) (from'_at_after_new_entries_near ne)) ne.old_entries-below.new.words
 said ne =
     let r = ne.old_entries-below in
-    ne.new_entries-near.ensures ∙ ap (λ (ss : List Store). run r.result.left ss r.new.words) (same_part-at-After-new_entries-near ne r.new.words r.auto.words _ _)
+    ne.new_entries-near.ensures ∙ ap (λ (ss : List Store). run r.result.left ss r.new.words) (same_part_at_after_new_entries_near ne r.new.words r.auto.words _ _)
 
 abbrev On-at-Else-not-near : (n : Else-not-near) → Budget → List ℕ → List Store → Type 0
 On-at-Else-not-near n more m rest = let a = n.args in Remaining a.left a.words.now (new_table (frame_of a.edit.f a.words.now) a.words.now (request_of a.edit.q) (entry_of a.new.e) a.new.b a.new.page.0) more m rest
 
 -- the stores of the entries from i on, as many as n; and of the whole page
-abbrev part-at-Else-not-near : (n : Else-not-near) → ℕ → ℕ → List Store
-part-at-Else-not-near n count i = let a = n.args in new_run (frame_of a.edit.f a.words.now) a.words.now (request_of a.edit.q) (entry_of a.new.e) a.new.b a.new.page.0 count i
+abbrev part_at_else_not_near : (n : Else-not-near) → ℕ → ℕ → List Store
+part_at_else_not_near n count i = let a = n.args in new_run (frame_of a.edit.f a.words.now) a.words.now (request_of a.edit.q) (entry_of a.new.e) a.new.b a.new.page.0 count i
 
-abbrev to'-at-Else-not-near : (n : Else-not-near) → ℕ
-to'-at-Else-not-near n = n.near_end-to.result
+abbrev to'_at_else_not_near : (n : Else-not-near) → ℕ
+to'_at_else_not_near n = n.near_end-to.result
 
-abbrev from'-at-Else-not-near : (n : Else-not-near) → ℕ
-from'-at-Else-not-near n = n.first_entry-from.result
+abbrev from'_at_else_not_near : (n : Else-not-near) → ℕ
+from'_at_else_not_near n = n.first_entry-from.result
 
--- before the first-at-Else-not-near part, the second and the third
-first-at-Else-not-near : (n : Else-not-near) → let a = n.args in On-at-Else-not-near n a.left a.words.now (part-at-Else-not-near n (from'-at-Else-not-near n - 0) 0 ++ (part-at-Else-not-near n (to'-at-Else-not-near n - from'-at-Else-not-near n) (from'-at-Else-not-near n) ++ part-at-Else-not-near n (PAGE-WORDS - to'-at-Else-not-near n) (to'-at-Else-not-near n)))
-first-at-Else-not-near n =
+-- before the first_at_else_not_near part, the second and the third
+first_at_else_not_near : (n : Else-not-near) → let a = n.args in On-at-Else-not-near n a.left a.words.now (part_at_else_not_near n (from'_at_else_not_near n - 0) 0 ++ (part_at_else_not_near n (to'_at_else_not_near n - from'_at_else_not_near n) (from'_at_else_not_near n) ++ part_at_else_not_near n (PAGE-WORDS - to'_at_else_not_near n) (to'_at_else_not_near n)))
+first_at_else_not_near n =
     let a = n.args in
-    remaining_start (run_parts (frame_of a.edit.f a.words.now) a.words.now (request_of a.edit.q) (entry_of a.new.e) a.new.b a.new.page.0 (from'-at-Else-not-near n) (to'-at-Else-not-near n) n.near_end-to.ensures.0 n.near_end-to.ensures.1) n.requires.5
+    remaining_start (run_parts (frame_of a.edit.f a.words.now) a.words.now (request_of a.edit.q) (entry_of a.new.e) a.new.b a.new.page.0 (from'_at_else_not_near n) (to'_at_else_not_near n) n.near_end-to.ensures.0 n.near_end-to.ensures.1) n.requires.5
 
-second-at-Else-not-near : (el : Else-not-near) → On-at-Else-not-near el el.old_entries-below.result.left el.old_entries-below.new.words (part-at-Else-not-near el (to'-at-Else-not-near el - from'-at-Else-not-near el) (from'-at-Else-not-near el) ++ part-at-Else-not-near el (PAGE-WORDS - to'-at-Else-not-near el) (to'-at-Else-not-near el))
-second-at-Else-not-near el =
+second_at_else_not_near : (el : Else-not-near) → On-at-Else-not-near el el.old_entries-below.result.left el.old_entries-below.new.words (part_at_else_not_near el (to'_at_else_not_near el - from'_at_else_not_near el) (from'_at_else_not_near el) ++ part_at_else_not_near el (PAGE-WORDS - to'_at_else_not_near el) (to'_at_else_not_near el))
+second_at_else_not_near el =
     let r = el.old_entries-below in
-    remaining_next (first-at-Else-not-near el) _ _ refl (sym (progress_all r.result r.new.words el.if-not-below.false) ∙ r.ensures)
+    remaining_next (first_at_else_not_near el) _ _ refl (sym (progress_all r.result r.new.words el.if-not-below.false) ∙ r.ensures)
 
 -- the same stores follow from the memory that stands
-same_part-at-Else-not-near : (n : Else-not-near) (m : List ℕ) → let a = n.args in length m ≡ length a.words.now → (count i : ℕ)
-    → new_run (frame_of a.edit.f m) m (request_of a.edit.q) (entry_of a.new.e) a.new.b a.new.page.0 count i ≡ part-at-Else-not-near n count i
-same_part-at-Else-not-near n m len count i =
+same_part_at_else_not_near : (n : Else-not-near) (m : List ℕ) → let a = n.args in length m ≡ length a.words.now → (count i : ℕ)
+    → new_run (frame_of a.edit.f m) m (request_of a.edit.q) (entry_of a.new.e) a.new.b a.new.page.0 count i ≡ part_at_else_not_near n count i
+same_part_at_else_not_near n m len count i =
     let a = n.args in
     run_same (frame_over a.edit.f) (request_of a.edit.q) (entry_of a.new.e) a.new.b a.new.page.0 m a.words.now n.requires.4 len count i
 
 -- what the second part made, from the memory that the call found
-said-at-Else-not-near : (ne : Else-not-near) → let t = ne.new_entries-near in
-    out t.result.all t.result.left t.new.words ≡ run ne.old_entries-below.result.left (part-at-Else-not-near ne (to'-at-Else-not-near ne - from'-at-Else-not-near ne) (from'-at-Else-not-near ne)) ne.old_entries-below.new.words
-said-at-Else-not-near ne =
+said_at_else_not_near : (ne : Else-not-near) → let t = ne.new_entries-near in
+    out t.result.all t.result.left t.new.words ≡ run ne.old_entries-below.result.left (part_at_else_not_near ne (to'_at_else_not_near ne - from'_at_else_not_near ne) (from'_at_else_not_near ne)) ne.old_entries-below.new.words
+said_at_else_not_near ne =
     let r = ne.old_entries-below in
-    ne.new_entries-near.ensures ∙ ap (λ (ss : List Store). run r.result.left ss r.new.words) (same_part-at-Else-not-near ne r.new.words r.auto.words _ _)
+    ne.new_entries-near.ensures ∙ ap (λ (ss : List Store). run r.result.left ss r.new.words) (same_part_at_else_not_near ne r.new.words r.auto.words _ _)
 
-third : (el2 : Else-not-near) → On-at-Else-not-near el2 el2.new_entries-near.result.left el2.new_entries-near.new.words (part-at-Else-not-near el2 (PAGE-WORDS - to'-at-Else-not-near el2) (to'-at-Else-not-near el2))
+third : (el2 : Else-not-near) → On-at-Else-not-near el2 el2.new_entries-near.result.left el2.new_entries-near.new.words (part_at_else_not_near el2 (PAGE-WORDS - to'_at_else_not_near el2) (to'_at_else_not_near el2))
 third el2 =
     let t = el2.new_entries-near in
-    remaining_next (second-at-Else-not-near el2) _ _ refl (sym (progress_all t.result t.new.words el2.if-not-near.false) ∙ said-at-Else-not-near el2)
+    remaining_next (second_at_else_not_near el2) _ _ refl (sym (progress_all t.result t.new.words el2.if-not-near.false) ∙ said_at_else_not_near el2)
 
 pub old_entries-below-requires : goal.old_entries-below-requires
 old_entries-below-requires c = (c.requires.0, c.first_entry-from.ensures.0, omega arith, c.requires.1, c.requires.2, c.requires.3, c.requires.4, λ k lo hi. c.first_entry-from.ensures.1 k (omega arith) (omega arith), remaining_ahead (first (goal.at.old_entries-below-requires c).After-near_end-to) _ _ refl)

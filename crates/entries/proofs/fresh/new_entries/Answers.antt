@@ -1,12 +1,10 @@
 -- `entries::fresh::new_entries` meets its contract: the loop keeps `New`: the entries that are left decide the whole run.
-use mathlib.Core.Path.{◌∙◌}
-use Prim.Native.Nat.{◌-◌}
 use native.Mathlib.Omega.{arith}
-use Rattle.shapes.proofs.NewPage.{New, new_start, new_ahead, new_next, new_cut, new_end}
+use Rattle.shapes.proofs.NewPage.{new_ahead, new_next, new_cut, new_end}
 use Rattle.shapes.proofs.Places.{good_same, lent_same}
 use Rattle.model.specs.Numbers.{joined}
 use Rattle.table.specs.Board.{frame_over}
-use Rattle.types.specs.Views.{entry_of, request_of}
+use Rattle.types.specs.Views.{entry_of}
 use Rattle.entries.proofs.fresh.new_entries.Goals as goal
 
 pub new_entry-progress-requires : goal.new_entry-progress-requires

@@ -1,12 +1,9 @@
 -- `entries::fresh::old_entries` meets its contract: each step of the loop fills the entries that are one word, and those that are left decide the
 -- whole run (`New`).
-use mathlib.Core.Path.{◌≡◌, ◌∙◌}
-use Prim.Native.Nat.{◌+◌, ◌-◌}
-use native.Mathlib.Omega.{arith}
+use Prim.Native.Nat.{◌-◌}
 use Rattle.table.specs.Board.{frame_over}
 use Rattle.types.specs.Views.{entry_of, request_of}
-use Rattle.shapes.proofs.NewPage.{New, new_start, new_ahead, new_next, new_cut, new_end}
-use Rattle.shapes.proofs.Places.{good_same, lent_same}
+use Rattle.shapes.proofs.NewPage.{New}
 use Rattle.entries.proofs.fresh.old_entries.Given as goal
 
 abbrev pub invariant-loop-i : goal.invariant-loop-i

@@ -34,9 +34,9 @@ word_of c k lo hi =
     (λ j l h. c.requires.7 j (omega arith) (omega arith))
 
 -- the word is that of every entry of the run
-word_of-at-After-page_at : (c : After-page_at) → let a = c.args in
+word_of_at_after_page_at : (c : After-page_at) → let a = c.args in
     (k : ℕ) → a.from ≤ k → k < a.to → c.old_word-word.result ≡ l1_word (frame_of a.edit.f a.words.now) a.words.now (request_of a.edit.q) (entry_of a.new.e) a.new.b k
-word_of-at-After-page_at c k lo hi =
+word_of_at_after_page_at c k lo hi =
     let a = c.args in
     let m = a.words.now in
     let same : c.old_word-word.result ≡ old_word (frame_of a.edit.f m) m (entry_of a.new.e) k = c.old_word-word.ensures ∙ sym (c.requires.8 k lo hi) in
@@ -54,7 +54,7 @@ same_stores p =
     let F = frame_of a.edit.f m in
     let n = a.to - a.from in
     ap (fill_stores p.old_word-word.result n) (place F a.new.page.0 a.from p.page_at.result p.page_at.ensures.0)
-    ∙ fill_run F m (request_of a.edit.q) (entry_of a.new.e) a.new.b a.new.page.0 p.old_word-word.result n a.from (λ k lo hi. word_of-at-After-page_at p k lo (omega (arith, p.requires.2)))
+    ∙ fill_run F m (request_of a.edit.q) (entry_of a.new.e) a.new.b a.new.page.0 p.old_word-word.result n a.from (λ k lo hi. word_of_at_after_page_at p k lo (omega (arith, p.requires.2)))
 
 pub fill-rest-requires : goal.fill-rest-requires
 fill-rest-requires c =

@@ -4,7 +4,6 @@ use mathlib.Core.Path.{◌≡◌, refl, sym, ap, ◌∙◌}
 use mathlib.Core.Bool.{true, false, not}
 use mathlib.Core.List.{List, [], ◌∷◌, ◌++◌}
 use Prim.Native.Nat.{ℕ}
-use lib.ListN.{length}
 use borrow.Author.Rules.{rules}
 use Rattle.table.specs.Board.{board, frame_of, frame_over}
 use Rattle.shapes.proofs.Places.{lent_same}
@@ -13,7 +12,6 @@ use Rattle.shapes.proofs.Order.{ahead_of, Remaining, remaining_start, remaining_
 use Rattle.shapes.proofs.RunLaws.{progress_all, progress_cut}
 use Rattle.shapes.specs.Run.{out, run}
 use Rattle.types.specs.declared.Budget.{Budget}
-use Rattle.types.specs.declared.Progress.{Progress}
 use Rattle.model.specs.Entry.{table, encode}
 use Rattle.model.specs.Frame.{Frame, lent}
 use Rattle.model.specs.Stores.{Store, store_l2, new_table, link_table}
@@ -35,30 +33,30 @@ first : (s : Start) → On s s.args.left s.args.words.now (page s ++ link s)
 unfolding link_table
 first s = remaining_start refl s.requires.7
 
-abbrev page-at-After-fill_page-first : (s : After-fill_page-first) → List Store
-page-at-After-fill_page-first s = let a = s.args in new_table (frame_of a.edit.f a.words.now) a.words.now (request_of a.edit.q) (entry_of a.new.e) a.new.b a.new.page.0
+abbrev page_at_after_fill_page_first : (s : After-fill_page-first) → List Store
+page_at_after_fill_page_first s = let a = s.args in new_table (frame_of a.edit.f a.words.now) a.words.now (request_of a.edit.q) (entry_of a.new.e) a.new.b a.new.page.0
 
 -- the call that fills the page: it is cut, and so is the whole; or the link comes next
-made : (k : After-fill_page-first) → out k.fill_page-first.result.all k.fill_page-first.result.left k.fill_page-first.new.words ≡ run k.args.left (page-at-After-fill_page-first k) k.args.words.now
+made : (k : After-fill_page-first) → out k.fill_page-first.result.all k.fill_page-first.result.left k.fill_page-first.new.words ≡ run k.args.left (page_at_after_fill_page_first k) k.args.words.now
 made k = k.fill_page-first.ensures
 
-abbrev link-at-After-fill_page-first : (s : After-fill_page-first) → List Store
-link-at-After-fill_page-first s = let a = s.args in store_l2 (frame_of a.edit.f a.words.now) a.edit.root.0 a.new.b (encode board (table a.new.page.0)) ∷ []
+abbrev link_at_after_fill_page_first : (s : After-fill_page-first) → List Store
+link_at_after_fill_page_first s = let a = s.args in store_l2 (frame_of a.edit.f a.words.now) a.edit.root.0 a.new.b (encode board (table a.new.page.0)) ∷ []
 
 -- before the page, and before the link
 abbrev On-at-After-fill_page-first : (s : After-fill_page-first) → Budget → List ℕ → List Store → Type 0
 On-at-After-fill_page-first s more m rest = let a = s.args in Remaining a.left a.words.now (link_table (frame_of a.edit.f a.words.now) a.words.now (request_of a.edit.q) a.edit.root.0 (entry_of a.new.e) a.new.b a.new.page.0) more m rest
 
-first-at-After-fill_page-first : (s : After-fill_page-first) → On-at-After-fill_page-first s s.args.left s.args.words.now (page-at-After-fill_page-first s ++ link-at-After-fill_page-first s)
+first_at_after_fill_page_first : (s : After-fill_page-first) → On-at-After-fill_page-first s s.args.left s.args.words.now (page_at_after_fill_page_first s ++ link_at_after_fill_page_first s)
 unfolding link_table
-first-at-After-fill_page-first s = remaining_start refl s.requires.7
+first_at_after_fill_page_first s = remaining_start refl s.requires.7
 
-cut : (k : After-fill_page-first) → not k.fill_page-first.result.all ≡ true → out k.fill_page-first.result.all k.fill_page-first.result.left k.fill_page-first.new.words ≡ run k.args.left (page-at-After-fill_page-first k ++ link-at-After-fill_page-first k) k.args.words.now
+cut : (k : After-fill_page-first) → not k.fill_page-first.result.all ≡ true → out k.fill_page-first.result.all k.fill_page-first.result.left k.fill_page-first.new.words ≡ run k.args.left (page_at_after_fill_page_first k ++ link_at_after_fill_page_first k) k.args.words.now
 unfolding link_table
-cut k z = let x = progress_cut k.fill_page-first.result k.fill_page-first.new.words z in x ∙ remaining_cut (first-at-After-fill_page-first k) _ _ refl (sym x ∙ made k)
+cut k z = let x = progress_cut k.fill_page-first.result k.fill_page-first.new.words z in x ∙ remaining_cut (first_at_after_fill_page_first k) _ _ refl (sym x ∙ made k)
 
-then : (k : After-fill_page-first) → not k.fill_page-first.result.all ≡ false → On-at-After-fill_page-first k k.fill_page-first.result.left k.fill_page-first.new.words (link-at-After-fill_page-first k)
-then k z = remaining_next (first-at-After-fill_page-first k) _ _ refl (sym (progress_all k.fill_page-first.result k.fill_page-first.new.words z) ∙ made k)
+then : (k : After-fill_page-first) → not k.fill_page-first.result.all ≡ false → On-at-After-fill_page-first k k.fill_page-first.result.left k.fill_page-first.new.words (link_at_after_fill_page_first k)
+then k z = remaining_next (first_at_after_fill_page_first k) _ _ refl (sym (progress_all k.fill_page-first.result k.fill_page-first.new.words z) ∙ made k)
 
 pub fill_page-first-requires : goal.fill_page-first-requires
 fill_page-first-requires c =

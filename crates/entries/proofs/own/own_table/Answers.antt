@@ -1,6 +1,5 @@
 -- `entries::own::own_table` meets its contract: outside the range no entry changes, so there is nothing to store.
 use native.Mathlib.Omega.{arith}
-use borrow.Author.Rules.{rules}
 use Rattle.forms.proofs.BoardShape.{board_shape}
 use Rattle.shapes.proofs.OwnPage.{own_none}
 use Rattle.entries.proofs.own.own_table.Goals as goal

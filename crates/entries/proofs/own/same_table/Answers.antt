@@ -1,13 +1,8 @@
 -- `entries::own::same_table` meets its contract: the loop keeps `Same`: the entries that are left decide the whole page, and those that lie outside
 -- the range have no store in the list.
-use mathlib.Core.Path.{◌∙◌}
-use Prim.Native.Nat.{◌-◌}
 use native.Mathlib.Omega.{arith}
-use borrow.Author.Rules.{rules}
-use Rattle.shapes.proofs.OwnPage.{Same, same_start, same_good, same_ahead, same_next, same_cut, same_end}
+use Rattle.shapes.proofs.OwnPage.{same_start, same_good, same_ahead, same_next, same_cut, same_end}
 use Rattle.shapes.proofs.RunLaws.{progress_all, progress_cut}
-use Rattle.types.specs.Views.{request_of}
-use Rattle.table.specs.Board.{frame_over}
 use Rattle.forms.proofs.BoardShape.{board_shape}
 use Rattle.entries.proofs.own.same_table.Goals as goal
 
@@ -18,14 +13,13 @@ loop-i-init c =
     r.result r.ensures.0 r.ensures.1 c.requires.3
 
 pub same_entry-progress-requires : goal.same_entry-progress-requires
-same_entry-progress-requires c =
-    (
-      c.requires.0,
-      omega (arith, c.past_entry-to.ensures.0),
-      c.requires.1,
-      same_good c.loop-i.invariant,
-      same_ahead c.loop-i.invariant (omega (arith, c.past_entry-to.ensures.0, c.loop-i-test.true)),
-    )
+same_entry-progress-requires c = (
+  c.requires.0,
+  omega (arith, c.past_entry-to.ensures.0),
+  c.requires.1,
+  same_good c.loop-i.invariant,
+  same_ahead c.loop-i.invariant (omega (arith, c.past_entry-to.ensures.0, c.loop-i-test.true)),
+)
 
 pub returns-then-not-progress : goal.returns-then-not-progress
 returns-then-not-progress c =

@@ -1,6 +1,5 @@
 -- `entries::put::put` meets its contract: no store is left, or the next one is made.
 use mathlib.Core.Path.{sym}
-use borrow.Author.Rules.{rules}
 use Rattle.shapes.proofs.RunLaws.{run_cut}
 use Rattle.entries.proofs.put.put.Goals as goal
 

@@ -6,7 +6,6 @@ use Rattle.shapes.proofs.Order.{next_made}
 use Rattle.shapes.proofs.RunLaws.{run_one}
 use Rattle.shapes.specs.Run.{all_made}
 use Rattle.table.specs.Stored.{store_of}
-use borrow.Author.Rules.{rules}
 use Rattle.entries.proofs.put.put_next.Goals as goal
 
 pub returns : goal.returns

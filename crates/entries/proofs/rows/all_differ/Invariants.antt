@@ -1,10 +1,7 @@
 -- `entries::rows::all_differ` meets its contract: after i steps of the loop the answer is that of the first i words.
-use mathlib.Core.Path.{◌≡◌, refl, sym, ap, ◌∙◌}
-use mathlib.Core.Bool.{Bool, ◌&&◌}
-use Prim.Native.Nat.{ℕ, ◌+◌, ◌-◌, ◌≤◌}
-use native.Mathlib.Omega.{arith}
+use mathlib.Core.Path.{◌≡◌}
+use Prim.Native.Nat.{◌-◌, ◌≤◌}
 use Rattle.model.specs.Numbers.{every}
-use Rattle.laws.proofs.Every.{every_next_last}
 use Rattle.shapes.specs.Rows.{differs}
 use Rattle.entries.proofs.rows.all_differ.Given as goal
 

@@ -1,13 +1,6 @@
 -- `entries::rows::fill` meets its contract: the loop keeps `Filled`: so many stores of the row are made, in order.
-use mathlib.Core.Path.{◌≡◌, ap, ◌∙◌}
-use mathlib.Core.List.{[], ◌∷◌}
-use Prim.Native.Nat.{ℕ, ◌-◌, ◌≤◌}
-use native.Mathlib.Omega.{arith}
-use Rattle.shapes.proofs.Order.{ahead_joined}
-use Rattle.shapes.proofs.RowLaws.{Filled, fill_start, fill_next}
-use Rattle.table.specs.Stored.{store_of}
-use Rattle.shapes.specs.Run.{run}
-use Rattle.shapes.specs.Rows.{fill_stores}
+use Prim.Native.Nat.{◌-◌, ◌≤◌}
+use Rattle.shapes.proofs.RowLaws.{Filled}
 use Rattle.entries.proofs.rows.fill.Given as goal
 
 abbrev pub invariant-loop-i : goal.invariant-loop-i

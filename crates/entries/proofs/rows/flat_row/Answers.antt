@@ -1,23 +1,19 @@
 -- `entries::rows::flat_row` meets its contract: the loop keeps `InRow`: the words before place i are done, and the others stand as they were, so that
 -- whether one changes is asked of what the call found.
-use mathlib.Core.Path.{◌≡◌, refl, ap, ◌∙◌}
-use Prim.Native.Nat.{ℕ, ◌-◌, ◌≤◌}
+use mathlib.Core.Path.{refl}
 use native.Mathlib.Omega.{arith}
-use Rattle.shapes.proofs.RowLaws.{InRow, row_start, row_ahead, row_next, row_cut}
+use Rattle.shapes.proofs.RowLaws.{row_start, row_ahead, row_next, row_cut}
 use Rattle.shapes.proofs.RunLaws.{progress_all, progress_cut}
-use Rattle.shapes.specs.Run.{run}
-use Rattle.shapes.specs.Rows.{row_stores}
 use Rattle.entries.proofs.rows.flat_row.Goals as goal
 
 pub loop-i-init : goal.loop-i-init
 loop-i-init c = (omega arith, row_start)
 
 pub put_changed-progress-requires : goal.put_changed-progress-requires
-put_changed-progress-requires c =
-    (
-      omega (arith, c.requires.0, c.loop-i.invariant.1.size),
-      row_ahead c.loop-i.invariant.1 refl c.args.n c.loop-i-test.true c.requires.1,
-    )
+put_changed-progress-requires c = (
+  omega (arith, c.requires.0, c.loop-i.invariant.1.size),
+  row_ahead c.loop-i.invariant.1 refl c.args.n c.loop-i-test.true c.requires.1,
+)
 
 pub returns-then-not-progress : goal.returns-then-not-progress
 returns-then-not-progress c =
@@ -27,8 +23,7 @@ returns-then-not-progress c =
 
 pub loop-i-preserved : goal.loop-i-preserved
 loop-i-preserved c =
-    let r = c.put_changed-progress in
-    (
+    let r = c.put_changed-progress in (
       omega (arith, c.loop-i-test.true),
       row_next c.loop-i.invariant.1 refl r.ensures
           (progress_all r.result r.new.words c.if-not-progress.false),

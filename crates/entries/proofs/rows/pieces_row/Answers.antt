@@ -1,13 +1,12 @@
 -- `entries::rows::pieces_row` meets its contract: the loop keeps `InRow`, and that no entry before place i has an L1 page; the first that has one ends
 -- the row.
 use mathlib.Core.Path.{◌≡◌, sym, ap, ◌∙◌}
-use Prim.Native.Nat.{ℕ, ◌+◌, ◌-◌, ◌≤◌, ◌<◌}
+use Prim.Native.Nat.{◌+◌}
 use native.Mathlib.Omega.{arith}
 use lib.ListN.{get_or}
-use Rattle.shapes.proofs.RowLaws.{InRow, row_start, row_ahead, row_next, row_said, one_more}
+use Rattle.shapes.proofs.RowLaws.{row_start, row_ahead, row_next, row_said, one_more}
 use Rattle.shapes.proofs.RunLaws.{progress_all, progress_cut}
-use Rattle.shapes.specs.Run.{run}
-use Rattle.shapes.specs.Rows.{row_stores, word_as_pieces}
+use Rattle.shapes.specs.Rows.{word_as_pieces}
 use Rattle.table.specs.Board.{board}
 use Rattle.entries.proofs.rows.pieces_row.Goals as goal
 

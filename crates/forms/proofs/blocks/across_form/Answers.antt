@@ -4,7 +4,6 @@ use native.Mathlib.Omega.{arith}
 use Rattle.table.specs.Board.{PIECE-INFO, frame_of}
 use Rattle.forms.proofs.BoardShape.{board_shape}
 use Rattle.shapes.proofs.EvenLaws.{even_flat, even_pieces}
-use borrow.Author.Rules.{rules}
 use Rattle.forms.proofs.blocks.across_form.Goals as goal
 
 pub even_form-requires : goal.even_form-requires

@@ -1,7 +1,5 @@
 -- `forms::blocks::block_form` meets its contract: a GiB of one permission, and else inside the range, outside it, and across an end.
 use mathlib.Core.Path.{◌∙◌}
-use native.Mathlib.Omega.{arith}
-use borrow.Author.Rules.{rules}
 use Rattle.table.specs.Board.{frame_of}
 use Rattle.shapes.proofs.FormLaws.{form_flat, form_not, form_inside}
 use Rattle.forms.proofs.BoardShape.{board_shape}

@@ -2,12 +2,10 @@
 use mathlib.Core.Path.{sym, ◌∙◌}
 use Prim.Native.Nat.{◌+◌, ◌/◌, ◌%◌}
 use native.Mathlib.Omega.{arith}
-use borrow.Author.Tests.{not-true}
 use Rattle.table.specs.Board.{PIECES, PIECE-BYTES, frame_of}
 use Rattle.shapes.proofs.FormLaws.{is_one, form_table}
 use Rattle.shapes.proofs.Fields.{every_fail}
 use Rattle.types.specs.Views.{entry_of, request_of}
-use borrow.Author.Rules.{rules}
 use Rattle.forms.proofs.blocks.cut_form.Goals as goal
 
 pub returns-then-not-piece_is_one : goal.returns-then-not-piece_is_one

@@ -1,8 +1,5 @@
 -- `forms::blocks::outside_form` meets its contract: outside the range the form is what the entry says, by pieces.
 use mathlib.Core.Path.{ap}
-use Prim.Native.Nat.{◌<◌}
-use native.Mathlib.Omega.{arith}
-use borrow.Author.Rules.{rules}
 use Rattle.table.specs.Board.{frame_of}
 use Rattle.forms.proofs.BoardShape.{board_shape}
 use Rattle.shapes.proofs.FormLaws.{form_flat_out, form_pieces_out}

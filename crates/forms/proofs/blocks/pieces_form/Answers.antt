@@ -1,10 +1,9 @@
 -- `forms::blocks::pieces_form` meets its contract: the pieces so far, from the highest down, are the digits of the form; the first that is mixed decides.
 use mathlib.Core.Path.{◌≡◌, refl, sym, ap, ◌∙◌, subst}
-use mathlib.Core.Bool.{Bool, true}
-use Prim.Native.Nat.{ℕ, ◌+◌, ◌-◌, ◌*◌, ◌≤◌, ◌<◌}
+use mathlib.Core.Bool.{Bool}
+use Prim.Native.Nat.{ℕ, ◌+◌, ◌-◌, ◌*◌, ◌<◌}
 use native.Mathlib.Nat.{zero-add}
 use native.Mathlib.Omega.{arith}
-use borrow.Author.Rules.{rules}
 use borrow.Author.Tests.{not-true, not-false}
 use Rattle.table.specs.Board.{PIECES, PIECE-PAGES, PIECE-INFO, frame_of}
 use Rattle.forms.proofs.BoardShape.{board_shape}
@@ -18,16 +17,16 @@ use Rattle.forms.proofs.blocks.pieces_form.Goals as goal
 use Rattle.forms.proofs.blocks.pieces_form.Goals.{After-piece_at-piece, Else-not-piece}
 
 -- whether the piece at hand is of one permission
-piece-one : (c : After-piece_at-piece) → let a = c.args in
+piece_one : (c : After-piece_at-piece) → let a = c.args in
     c.piece_at-piece.result.one ≡ is_one (frame_of a.edit.f a.words.now) a.words.now (request_of a.edit.q) (entry_of a.e) a.b ((PIECES - 1) - c.loop-j.j)
-piece-one c =
+piece_one c =
     let a = c.args in
     c.piece_at-piece.ensures.1
     ∙ ap (λ (p : ℕ). all_are (frame_of a.edit.f a.words.now) a.words.now (request_of a.edit.q) (entry_of a.e) p PIECE-PAGES (a.b * 8192 + ((PIECES - 1) - c.loop-j.j) * PIECE-PAGES)) c.piece_at-piece.ensures.0
 
-next-info : (c : Else-not-piece) → let a = c.args in
+next_info : (c : Else-not-piece) → let a = c.args in
     c.piece_at-piece.result.p + 4 * c.loop-j.info ≡ pack 4 (first_of (frame_of a.edit.f a.words.now) a.words.now (request_of a.edit.q) (entry_of a.e) a.b) (c.loop-j.j + 1) (PIECES - (c.loop-j.j + 1))
-next-info c =
+next_info c =
     let a = c.args in
     horner 4 (first_of (frame_of a.edit.f a.words.now) a.words.now (request_of a.edit.q) (entry_of a.e) a.b) PIECES 0 c.loop-j.j c.loop-j.info c.piece_at-piece.result.p (omega arith) c.loop-j.invariant.1 (c.piece_at-piece.ensures.0 ∙ ap (first_of (frame_of a.edit.f a.words.now) a.words.now (request_of a.edit.q) (entry_of a.e) a.b) (sym (zero-add ((PIECES - 1) - c.loop-j.j))))
 
@@ -35,7 +34,7 @@ next_fits : (c : Else-not-piece) → c.piece_at-piece.result.p + 4 * c.loop-j.in
 next_fits c =
     let a = c.args in
     let pre = c.requires in
-    subst (λ (k : ℕ). k < PIECE-INFO) (sym (next-info c))
+    subst (λ (k : ℕ). k < PIECE-INFO) (sym (next_info c))
     (pack_fits 4 (first_of (frame_of a.edit.f a.words.now) a.words.now (request_of a.edit.q) (entry_of a.e) a.b)
     (λ k. after_small (frame_of a.edit.f a.words.now) board_shape a.words.now (request_of a.edit.q) pre.1.small (entry_of a.e) pre.2 (a.b * 8192 + k * PIECE-PAGES))
     PIECES (c.loop-j.j + 1) (PIECES - (c.loop-j.j + 1)) (omega arith))
@@ -49,7 +48,7 @@ returns-then-not-piece c =
     let a = c.args in
     form_table (frame_of a.edit.f a.words.now) a.words.now (request_of a.edit.q) (entry_of a.e) a.b
     (every_fail (is_one (frame_of a.edit.f a.words.now) a.words.now (request_of a.edit.q) (entry_of a.e) a.b) PIECES ((PIECES - 1) - c.loop-j.j) (omega arith)
-    (sym (piece-one (goal.at.returns-then-not-piece c).After-piece_at-piece) ∙ not-true _ c.if-not-piece.true))
+    (sym (piece_one (goal.at.returns-then-not-piece c).After-piece_at-piece) ∙ not-true _ c.if-not-piece.true))
 
 pub overflow_mul-info : goal.overflow_mul-info
 overflow_mul-info c = record { fits = omega (arith, next_fits c) }
@@ -61,9 +60,9 @@ pub loop-j-preserved : goal.loop-j-preserved
 loop-j-preserved c =
     let a = c.args in (
       omega arith,
-      next-info (goal.at.loop-j-preserved c).Else-not-piece,
+      next_info (goal.at.loop-j-preserved c).Else-not-piece,
       every_down (is_one (frame_of a.edit.f a.words.now) a.words.now (request_of a.edit.q) (entry_of a.e) a.b) PIECES c.loop-j.j (omega arith) c.loop-j.invariant.2
-          (sym (piece-one (goal.at.loop-j-preserved c).After-piece_at-piece) ∙ not-false _ c.if-not-piece.false),
+          (sym (piece_one (goal.at.loop-j-preserved c).After-piece_at-piece) ∙ not-false _ c.if-not-piece.false),
     )
 
 pub returns : goal.returns

@@ -1,17 +1,9 @@
 -- `forms::blocks::pieces_form` meets its contract: the pieces so far, from the highest down, are the digits of the form; the first that is mixed decides.
-use mathlib.Core.Path.{◌≡◌, refl, sym, ap, ◌∙◌, subst}
-use mathlib.Core.Bool.{Bool, true}
-use Prim.Native.Nat.{ℕ, ◌+◌, ◌-◌, ◌*◌, ◌≤◌, ◌<◌}
-use native.Mathlib.Nat.{zero-add}
-use native.Mathlib.Omega.{arith}
-use borrow.Author.Rules.{rules}
-use borrow.Author.Tests.{not-true, not-false}
-use Rattle.table.specs.Board.{PIECES, PIECE-PAGES, PIECE-INFO, frame_of}
-use Rattle.forms.proofs.BoardShape.{board_shape}
-use Rattle.shapes.proofs.FormLaws.{first_of, is_one, form_pieces, form_table}
-use Rattle.shapes.proofs.Fields.{horner, every_down, every_fail, pack_fits}
-use Rattle.shapes.proofs.EntryLaws.{after_small}
-use Rattle.model.specs.Forms.{all_are, want_pieces}
+use mathlib.Core.Path.{◌≡◌}
+use mathlib.Core.Bool.{true}
+use Prim.Native.Nat.{◌-◌, ◌≤◌}
+use Rattle.table.specs.Board.{PIECES, frame_of}
+use Rattle.shapes.proofs.FormLaws.{first_of, is_one}
 use Rattle.model.specs.Numbers.{pack, every}
 use Rattle.types.specs.Views.{entry_of, request_of}
 use Rattle.forms.proofs.blocks.pieces_form.Given as goal

@@ -12,19 +12,18 @@ use Rattle.shapes.specs.Blocks.{Mixes}
 use Rattle.laws.proofs.Splices.{spliced}
 use Rattle.model.specs.Forms.{want_pieces}
 use Rattle.types.specs.Views.{entry_of, request_of}
-use borrow.Author.Rules.{rules}
 use Rattle.forms.proofs.even.even_form.Goals as goal
 use Rattle.forms.proofs.even.even_form.Goals.{Start}
 
 -- the ends of the range as the laws have them, rounded up, which for whole pages changes nothing
-first-up : (s : Start) → let q = s.args.edit.q in q.start.0 / 4096 ≡ (q.start.0 + 4095) / 4096
-first-up s = omega (arith, s.requires.1.starts)
+first_up : (s : Start) → let q = s.args.edit.q in q.start.0 / 4096 ≡ (q.start.0 + 4095) / 4096
+first_up s = omega (arith, s.requires.1.starts)
 
 past_up : (s : Start) → let q = s.args.edit.q in (q.start.0 + q.size) / 4096 ≡ (q.start.0 + q.size + 4095) / 4096
 past_up s = omega (arith, s.requires.1.starts, s.requires.1.whole)
 
-not-empty : (s : Start) → let q = s.args.edit.q in (q.start.0 + 4095) / 4096 ≡ (q.start.0 + q.size + 4095) / 4096 → ⊥
-not-empty s z = omega (arith, z, s.requires.1.starts, s.requires.1.whole, s.requires.1.some)
+not_empty : (s : Start) → let q = s.args.edit.q in (q.start.0 + 4095) / 4096 ≡ (q.start.0 + q.size + 4095) / 4096 → ⊥
+not_empty s z = omega (arith, z, s.requires.1.starts, s.requires.1.whole, s.requires.1.some)
 
 -- what `mixes` says of an end
 mixing : (s : Start) (n n' : ℕ) (r r' : Bool) → n ≡ n' → r ≡ r' → let a = s.args in Mixes board (request_of a.edit.q) a.b a.info n r → Mixes board (request_of a.edit.q) a.b a.info n' r'
@@ -34,14 +33,14 @@ pub returns-then-mixes : goal.returns-then-mixes
 returns-then-mixes c =
     let a = c.args in
     mixed_first (frame_of a.edit.f a.words.now) board_shape a.words.now (request_of a.edit.q) c.requires.1.small (entry_of a.e) c.requires.2 a.b a.info c.requires.3 c.requires.4
-    (not-empty (goal.at.returns-then-mixes c).Start)
-    (mixing (goal.at.returns-then-mixes c).Start _ _ _ _ (first-up (goal.at.returns-then-mixes c).Start) c.if-mixes.true c.mixes.ensures)
+    (not_empty (goal.at.returns-then-mixes c).Start)
+    (mixing (goal.at.returns-then-mixes c).Start _ _ _ _ (first_up (goal.at.returns-then-mixes c).Start) c.if-mixes.true c.mixes.ensures)
 
 pub returns-then-mixes-2 : goal.returns-then-mixes-2
 returns-then-mixes-2 c =
     let a = c.args in
     mixed_past (frame_of a.edit.f a.words.now) board_shape a.words.now (request_of a.edit.q) c.requires.1.small (entry_of a.e) c.requires.2 a.b a.info c.requires.3 c.requires.4
-    (not-empty (goal.at.returns-then-mixes-2 c).Start)
+    (not_empty (goal.at.returns-then-mixes-2 c).Start)
     (mixing (goal.at.returns-then-mixes-2 c).Start _ _ _ _ (past_up (goal.at.returns-then-mixes-2 c).Start) c.if-mixes-2.true c.mixes-2.ensures)
 
 pub returns : goal.returns
@@ -55,8 +54,8 @@ returns c =
     ∙ ap (λ (w : ℕ). spliced 2 (2 * hi) w a.info) (c.splice.ensures ∙ splice_bits 2 lo a.info want)
     ∙ splice_bits 2 hi (spliced 4 lo a.info want) a.info)
     ∙ even_spliced (frame_of a.edit.f a.words.now) board_shape a.words.now (request_of a.edit.q) c.requires.1.small (entry_of a.e) c.requires.2 a.b a.info c.requires.3 c.requires.4
-    (mixing (goal.at.returns c).Start _ _ _ _ (first-up (goal.at.returns c).Start) c.if-mixes.false c.mixes.ensures)
+    (mixing (goal.at.returns c).Start _ _ _ _ (first_up (goal.at.returns c).Start) c.if-mixes.false c.mixes.ensures)
     (mixing (goal.at.returns c).Start _ _ _ _ (past_up (goal.at.returns c).Start) c.if-mixes-2.false c.mixes-2.ensures)
     lo hi
-    (subst (λ (n : ℕ). Cut ((n + (PIECE-PAGES - 1)) / PIECE-PAGES) (a.b * PIECES) PIECES lo) (first-up (goal.at.returns c).Start) c.cut-low.ensures)
+    (subst (λ (n : ℕ). Cut ((n + (PIECE-PAGES - 1)) / PIECE-PAGES) (a.b * PIECES) PIECES lo) (first_up (goal.at.returns c).Start) c.cut-low.ensures)
     (subst (λ (n : ℕ). Cut ((n + (PIECE-PAGES - 1)) / PIECE-PAGES) (a.b * PIECES) PIECES hi) (past_up (goal.at.returns c).Start) c.cut-high.ensures)

@@ -8,7 +8,6 @@ use Rattle.model.specs.Forms.{Form}
 use Rattle.model.specs.Numbers.{if◌then◌else◌}
 use Rattle.model.specs.Stores.{needs_page}
 use Rattle.model.specs.Walk.{entry_at}
-use borrow.Author.Rules.{rules}
 use Rattle.forms.proofs.gibs.block_new_pages.Goals as goal
 
 pub returns-in-Inside : goal.returns-in-Inside

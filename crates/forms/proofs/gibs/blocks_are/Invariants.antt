@@ -1,17 +1,11 @@
 -- `forms::gibs::blocks_are` meets its contract: the blocks that are left decide the whole GiB.
-use mathlib.Core.Path.{◌≡◌, sym, ap, ◌∙◌, subst}
+use mathlib.Core.Path.{◌≡◌}
 use Prim.Native.Nat.{◌+◌, ◌-◌, ◌*◌, ◌≤◌}
-use native.Mathlib.Omega.{arith}
-use borrow.Author.Tests.{not-true, not-false}
 use Rattle.table.specs.Board.{frame_of}
 use Rattle.shapes.specs.Blocks.{block_is}
-use Rattle.shapes.proofs.GibLaws.{gib_every}
-use Rattle.shapes.proofs.Fields.{every_next, every_stop, every_none}
-use Rattle.model.specs.Entry.{Entry}
-use Rattle.model.specs.Forms.{all_are, gib_is_one}
+use Rattle.model.specs.Forms.{gib_is_one}
 use Rattle.model.specs.Numbers.{every}
 use Rattle.types.specs.Views.{request_of}
-use Rattle.shapes.specs.Rooted.{Good}
 use Rattle.forms.proofs.gibs.blocks_are.Given as goal
 
 abbrev pub invariant-loop-i : goal.invariant-loop-i

@@ -1,5 +1,4 @@
 -- `forms::gibs::gib_of` meets its contract: a GiB wholly in the range is of the asked permission.
-use borrow.Author.Rules.{rules}
 use Rattle.forms.proofs.BoardShape.{board_shape}
 use Rattle.shapes.proofs.GibLaws.{inside_first, inside_one}
 use Rattle.types.specs.Views.{request_of}

@@ -1,9 +1,8 @@
 -- `forms::gibs::new_pages` meets its contract: a range of whole pieces takes none, and any other only at its two ends.
 use mathlib.Core.Path.{sym, ap₂, ◌∙◌}
-use Prim.Native.Nat.{ℕ, ◌+◌, ◌-◌, ◌/◌, ◌≤◌, ◌<◌}
+use Prim.Native.Nat.{ℕ, ◌+◌, ◌-◌, ◌/◌, ◌≤◌}
 use native.Mathlib.Omega.{arith}
 use borrow.Author.Tests.{eqb-true}
-use borrow.Author.Rules.{rules}
 use lib.Dec.{lit≤}
 use Rattle.laws.proofs.Choices.{and_true}
 use Rattle.laws.proofs.FrameNumbers.{framed}
@@ -11,7 +10,7 @@ use Rattle.range.proofs.RangeEnds.{fair_of}
 use Rattle.table.specs.Board.{frame_of}
 use Rattle.types.specs.Range.{Fair}
 use Rattle.forms.proofs.BoardShape.{board_shape}
-use Rattle.shapes.proofs.CountLaws.{some, low_inside, high_inside, count_none, count_one, count_two, one_at_most}
+use Rattle.shapes.proofs.CountLaws.{low_inside, high_inside, count_none, count_one, count_two, one_at_most}
 use Rattle.forms.proofs.gibs.new_pages.Goals as goal
 use Rattle.forms.proofs.gibs.new_pages.Goals.{After-block_new_pages, After-block_new_pages-at_low, Start}
 
@@ -45,7 +44,7 @@ block_new_pages-requires c = (c.requires.rooted, high_inside board_shape c.requi
 
 pub returns : goal.returns
 returns c = (
-      ap₂ (λ (x y : ℕ). x + y) c.block_new_pages-at_low.ensures c.block_new_pages.ensures
-          ∙ count_two board_shape c.requires c.if-low-high.false,
-      omega (arith, low_one (goal.at.returns c).After-block_new_pages-at_low, high_one c),
-    )
+  ap₂ (λ (x y : ℕ). x + y) c.block_new_pages-at_low.ensures c.block_new_pages.ensures
+      ∙ count_two board_shape c.requires c.if-low-high.false,
+  omega (arith, low_one (goal.at.returns c).After-block_new_pages-at_low, high_one c),
+)

@@ -1,17 +1,9 @@
 -- `forms::gibs::read_page` meets its contract: a block that has its page takes none; for any other its form decides.
-use mathlib.Core.Path.{◌≡◌, sym, ap, ap₂, ◌∙◌, subst}
+use mathlib.Core.Path.{sym, ap, ◌∙◌}
 use mathlib.Core.Bool.{false}
-use native.Mathlib.Omega.{arith}
-use borrow.Author.Tests.{not-true}
-use Rattle.table.specs.Board.{frame_of}
 use Rattle.shapes.proofs.CountLaws.{table_none}
-use Rattle.model.specs.Entry.{Entry}
 use Rattle.model.specs.Forms as model
 use Rattle.model.specs.Stores.{needs_page}
-use Rattle.model.specs.Walk as walk
-use Rattle.types.specs.Views.{request_of}
-use Rattle.shapes.specs.Rooted.{Good}
-use borrow.Author.Rules.{rules}
 use Rattle.forms.proofs.gibs.read_page.Goals as goal
 
 pub returns-then-not-needs_page : goal.returns-then-not-needs_page

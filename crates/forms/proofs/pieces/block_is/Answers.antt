@@ -5,7 +5,6 @@ use Rattle.table.specs.Board.{frame_of}
 use Rattle.forms.proofs.BoardShape.{board_shape}
 use Rattle.shapes.proofs.EntryLaws.{run_inside}
 use Rattle.types.specs.Views.{entry_of, request_of}
-use borrow.Author.Rules.{rules}
 use Rattle.forms.proofs.pieces.block_is.Goals as goal
 
 pub returns-in-Inside : goal.returns-in-Inside

@@ -9,7 +9,6 @@ use Rattle.shapes.proofs.EvenLaws.{even_is, even_pieces}
 use Rattle.model.specs.Forms.{perm_of}
 use Rattle.model.specs.Walk.{found}
 use Rattle.types.specs.Views.{entry_of, request_of}
-use borrow.Author.Rules.{rules}
 use Rattle.forms.proofs.pieces.old_block_is.Goals as goal
 
 pub returns-in-Flat : goal.returns-in-Flat

@@ -7,7 +7,6 @@ use Rattle.forms.proofs.BoardShape.{board_shape}
 use Rattle.shapes.proofs.EntryLaws.{first_field, after_small, word_outside}
 use Rattle.model.specs.Forms.{after_in}
 use Rattle.types.specs.Views.{entry_of, request_of}
-use borrow.Author.Rules.{rules}
 use Rattle.forms.proofs.pieces.old_first.Goals as goal
 
 pub returns : goal.returns

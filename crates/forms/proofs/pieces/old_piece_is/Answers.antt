@@ -4,12 +4,10 @@ use Prim.Native.Nat.{ℕ, ◌+◌, ◌*◌, ◌/◌, ◌%◌}
 use native.Mathlib.Omega.{arith}
 use lib.ListN.{get_or}
 use lib.Dec.{eqb}
-use borrow.Author.Rules.{rules}
 use Rattle.laws.proofs.FrameNumbers.{index_add}
 use Rattle.table.specs.Board.{PIECE-PAGES, PIECE-WORDS, frame_of}
 use Rattle.forms.proofs.BoardShape.{board_shape}
 use Rattle.shapes.proofs.EntryLaws.{run_outside}
-use Rattle.laws.proofs.Tests.{eqb_swap}
 use Rattle.shapes.proofs.FormLaws.{piece_words_lem}
 use Rattle.model.specs.Entry.{Entry}
 use Rattle.model.specs.Forms.{all_are, perm_of}

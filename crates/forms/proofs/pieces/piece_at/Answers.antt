@@ -1,6 +1,6 @@
 -- `forms::pieces::piece_at` meets its contract: inside the range, outside it, and across an end.
 use mathlib.Core.Path.{refl, sym, ◌∙◌}
-use Prim.Native.Nat.{◌+◌, ◌*◌, ◌-◌}
+use Prim.Native.Nat.{◌+◌, ◌*◌}
 use native.Mathlib.Omega.{arith}
 use borrow.Author.Tests.{eq-eqb}
 use Rattle.table.specs.Board.{PIECE-PAGES, frame_of}
@@ -8,7 +8,6 @@ use Rattle.forms.proofs.BoardShape.{board_shape}
 use Rattle.shapes.proofs.EntryLaws.{run_inside}
 use Rattle.model.specs.Forms.{after_in}
 use Rattle.types.specs.Views.{entry_of, request_of}
-use borrow.Author.Rules.{rules}
 use Rattle.forms.proofs.pieces.piece_at.Goals as goal
 
 pub returns-in-Inside : goal.returns-in-Inside

@@ -1,12 +1,9 @@
 -- `forms::pieces::piece_is` meets its contract: inside the range, outside it, and across an end.
-use mathlib.Core.Path.{◌≡◌, ap, ◌∙◌}
-use Prim.Native.Nat.{◌+◌, ◌-◌, ◌*◌}
+use Prim.Native.Nat.{◌+◌, ◌*◌}
 use native.Mathlib.Omega.{arith}
-use borrow.Author.Rules.{rules}
-use Rattle.table.specs.Board.{FIELDS, PIECE-PAGES, PIECE-WORDS, frame_of}
+use Rattle.table.specs.Board.{PIECE-PAGES, frame_of}
 use Rattle.forms.proofs.BoardShape.{board_shape}
 use Rattle.shapes.proofs.EntryLaws.{run_inside}
-use Rattle.model.specs.Forms.{all_are}
 use Rattle.types.specs.Views.{entry_of, request_of}
 use Rattle.forms.proofs.pieces.piece_is.Goals as goal
 

@@ -1,13 +1,10 @@
 -- `forms::pieces::pieces_are` meets its contract: the pieces that are left decide the whole block.
-use mathlib.Core.Path.{◌≡◌, sym, ap, ◌∙◌}
-use Prim.Native.Nat.{◌+◌, ◌-◌, ◌*◌, ◌≤◌}
+use mathlib.Core.Path.{◌≡◌, sym, ◌∙◌}
+use Prim.Native.Nat.{◌+◌, ◌-◌, ◌*◌}
 use native.Mathlib.Omega.{arith}
-use borrow.Author.Rules.{rules}
-use borrow.Author.Tests.{not-true, not-false}
-use Rattle.table.specs.Board.{PIECES, PIECE-PAGES, frame_of}
+use Rattle.table.specs.Board.{PIECE-PAGES, frame_of}
 use Rattle.forms.proofs.BoardShape.{board_shape}
 use Rattle.shapes.proofs.EntryLaws.{pieces_next, pieces_stop, all_none}
-use Rattle.model.specs.Forms.{all_are}
 use Rattle.types.specs.Views.{entry_of, request_of}
 use Rattle.forms.proofs.pieces.pieces_are.Goals as goal
 

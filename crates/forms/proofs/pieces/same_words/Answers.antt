@@ -1,14 +1,12 @@
 -- `forms::pieces::same_words` meets its contract: the words that are left decide the whole.
-use mathlib.Core.Path.{◌≡◌, sym, ap, ◌∙◌}
-use Prim.Native.Nat.{◌+◌, ◌-◌, ◌≤◌}
+use mathlib.Core.Path.{◌≡◌, sym, ◌∙◌}
+use Prim.Native.Nat.{◌+◌, ◌-◌}
 use native.Mathlib.Omega.{arith}
-use borrow.Author.Rules.{rules}
 use lib.Dec.{eqb}
 use lib.ListN.{get_or}
 use borrow.Author.Tests.{eq-eqb, ne_eqb}
 use Rattle.table.specs.Board.{PIECE-WORDS}
 use Rattle.shapes.proofs.Fields.{every_next, every_stop, every_none}
-use Rattle.model.specs.Numbers.{every}
 use Rattle.forms.proofs.pieces.same_words.Goals as goal
 
 pub returns-then-words-at : goal.returns-then-words-at

@@ -1,13 +1,9 @@
 -- `forms::pieces::same_words` meets its contract: the words that are left decide the whole.
-use mathlib.Core.Path.{◌≡◌, sym, ap, ◌∙◌}
+use mathlib.Core.Path.{◌≡◌}
 use Prim.Native.Nat.{◌+◌, ◌-◌, ◌≤◌}
-use native.Mathlib.Omega.{arith}
-use borrow.Author.Rules.{rules}
 use lib.Dec.{eqb}
 use lib.ListN.{get_or}
-use borrow.Author.Tests.{eq-eqb, ne_eqb}
 use Rattle.table.specs.Board.{PIECE-WORDS}
-use Rattle.shapes.proofs.Fields.{every_next, every_stop, every_none}
 use Rattle.model.specs.Numbers.{every}
 use Rattle.forms.proofs.pieces.same_words.Given as goal
 

@@ -1,14 +1,12 @@
 -- `forms::pieces::words_are` meets its contract: the entries that are left decide the whole piece.
-use mathlib.Core.Path.{ap₂, ◌≡◌, sym, ap, ◌∙◌}
-use Prim.Native.Nat.{ℕ, ◌+◌, ◌-◌, ◌*◌, ◌≤◌}
+use mathlib.Core.Path.{ap₂, ◌≡◌, sym, ◌∙◌}
+use Prim.Native.Nat.{ℕ, ◌+◌, ◌-◌, ◌*◌}
 use native.Mathlib.Omega.{arith}
-use borrow.Author.Rules.{rules}
 use borrow.Author.Tests.{eq-eqb, ne_eqb}
 use lib.Dec.{eqb}
-use Rattle.table.specs.Board.{board, FIELDS, PIECE-PAGES, PIECE-WORDS, frame_of}
+use Rattle.table.specs.Board.{FIELDS, PIECE-PAGES, frame_of}
 use Rattle.forms.proofs.BoardShape.{board_shape}
 use Rattle.shapes.proofs.EntryLaws.{word_is, words_next, words_stop, all_none}
-use Rattle.shapes.specs.Words.{spread_of}
 use Rattle.model.specs.Forms.{all_are}
 use Rattle.types.specs.Views.{entry_of, request_of}
 use Rattle.forms.proofs.pieces.words_are.Goals as goal

@@ -7,7 +7,6 @@ use Rattle.table.specs.Board.{FIELDS}
 use Rattle.types.specs.Range.{Cut}
 use Rattle.types.specs.Views.{request_of}
 use Rattle.laws.proofs.Splices.{spliced}
-use borrow.Author.Rules.{rules}
 use Rattle.forms.proofs.words.mixed_word.Goals as goal
 
 pub returns : goal.returns

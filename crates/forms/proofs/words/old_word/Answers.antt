@@ -1,9 +1,6 @@
 -- `forms::words::old_word` meets its contract: by what the block's entry says.
-use mathlib.Core.Path.{◌∙◌, ap}
-use borrow.Author.Rules.{rules}
 use Rattle.laws.proofs.FrameNumbers.{word_at_lem}
-use Rattle.table.specs.Board.{board, frame_of}
-use Rattle.shapes.specs.Words.{spread_of}
+use Rattle.table.specs.Board.{frame_of}
 use Rattle.model.specs.Frame.{word_at}
 use Rattle.forms.proofs.words.old_word.Goals as goal
 

@@ -1,11 +1,8 @@
 -- `forms::words::splice_fields` meets its contract: a splice of bits at a multiple of four is one of fields.
-use mathlib.Core.Path.{ap, ap₂, sym, subst, ◌∙◌, ◌≡◌}
-use Prim.Native.Nat.{ℕ, ◌<◌}
-use native.Mathlib.Omega.{arith}
-use Rattle.table.specs.Board.{ENTRY-VALUES, FIELDS}
+use mathlib.Core.Path.{ap₂, ◌∙◌, ◌≡◌}
+use Prim.Native.Nat.{ℕ}
 use Rattle.shapes.proofs.SpliceLaws.{splice_bits}
-use Rattle.laws.proofs.Splices.{spliced, splice_lt}
-use borrow.Author.Rules.{rules}
+use Rattle.laws.proofs.Splices.{spliced}
 use Rattle.forms.proofs.words.splice_fields.Goals as goal
 use Rattle.forms.proofs.words.splice_fields.Goals.{After-splice}
 

@@ -1,7 +1,7 @@
 -- `range::bounds::on_lent_pages` meets its contract: tests in the definition's order; no sum wraps, since lent pages and range end within the address space.
 use native.Mathlib.Omega.{arith}
 use lib.Dec.{lit≤}
-use borrow.Author.Tests.{eq-eqb, ne_eqb, lt-ltb, le-ltb}
+use borrow.Author.Tests.{ne_eqb, lt-ltb, le-ltb}
 use Rattle.model.specs.Calls.{meets_lent}
 use Rattle.table.specs.Board.{frame_over}
 use Rattle.types.specs.Views.{request_of}

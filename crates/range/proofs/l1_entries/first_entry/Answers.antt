@@ -1,7 +1,6 @@
 -- `range::l1_entries::first_entry` meets its contract: an entry below the one that holds the start ends before the range.
 use native.Mathlib.Omega.{arith}
 use Rattle.laws.proofs.InRange.{below_false}
-use borrow.Author.Rules.{rules}
 use Rattle.range.proofs.l1_entries.first_entry.Goals as goal
 
 pub returns-then-base-low : goal.returns-then-base-low

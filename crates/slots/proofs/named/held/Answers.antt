@@ -1,12 +1,9 @@
 -- `slots::named::held` meets its contract: the invariant: the slots that are left decide whether one holds the SDID.
-use mathlib.Core.Path.{◌≡◌, refl, sym, ◌∙◌}
-use Prim.Native.Nat.{◌-◌, ◌≤◌, ◌<◌}
+use mathlib.Core.Path.{sym, ◌∙◌}
+use Prim.Native.Nat.{◌≤◌, ◌<◌}
 use native.Mathlib.Omega.{arith}
-use lib.ListN.{length, drop}
-use borrow.Author.Rules.{rules}
-use Rattle.model.specs.Numbers.{member}
+use lib.ListN.{length}
 use Rattle.table.specs.Board.{board}
-use Rattle.shapes.specs.Slots.{open_sdids}
 use Rattle.shapes.proofs.SlotLaws.{held_here, held_later, held_by_none}
 use Rattle.slots.proofs.named.held.Goals as goal
 

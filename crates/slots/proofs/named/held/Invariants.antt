@@ -1,13 +1,10 @@
 -- `slots::named::held` meets its contract: the invariant: the slots that are left decide whether one holds the SDID.
-use mathlib.Core.Path.{◌≡◌, refl, sym, ◌∙◌}
-use Prim.Native.Nat.{◌-◌, ◌≤◌, ◌<◌}
-use native.Mathlib.Omega.{arith}
+use mathlib.Core.Path.{◌≡◌}
+use Prim.Native.Nat.{◌-◌, ◌≤◌}
 use lib.ListN.{length, drop}
-use borrow.Author.Rules.{rules}
 use Rattle.model.specs.Numbers.{member}
 use Rattle.table.specs.Board.{board}
 use Rattle.shapes.specs.Slots.{open_sdids}
-use Rattle.shapes.proofs.SlotLaws.{held_here, held_later, held_by_none}
 use Rattle.slots.proofs.named.held.Given as goal
 
 abbrev pub invariant-loop-i : goal.invariant-loop-i

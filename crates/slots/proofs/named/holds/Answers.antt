@@ -1,6 +1,5 @@
 -- `slots::named::holds` meets its contract: an empty slot holds no SDID, whatever its bits say.
 use borrow.Author.Tests.{eq-eqb, ne_eqb}
-use borrow.Author.Rules.{rules}
 use Rattle.model.specs.Sound.{is_open}
 use Rattle.slots.proofs.named.holds.Goals as goal
 

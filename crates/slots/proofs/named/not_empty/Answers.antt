@@ -1,6 +1,5 @@
 -- `slots::named::not_empty` meets its contract: past the last slot none is empty; else the slot's own word tells.
-use borrow.Author.Tests.{lt-ltb, le-ltb}
-use borrow.Author.Rules.{rules}
+use borrow.Author.Tests.{lt-ltb}
 use Rattle.model.specs.Sound.{is_open}
 use Rattle.model.specs.Calls.{slot_at}
 use Rattle.slots.proofs.named.not_empty.Goals as goal

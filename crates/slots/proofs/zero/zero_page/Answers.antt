@@ -1,10 +1,9 @@
 -- `slots::zero::zero_page` meets its contract: the invariant: zeroing the words that are left gives the zeroed page.
-use mathlib.Core.Path.{◌≡◌, refl, sym, ap, ◌∙◌}
+use mathlib.Core.Path.{refl, sym, ap, ◌∙◌}
 use mathlib.Core.List.{List}
-use Prim.Native.Nat.{ℕ, ◌+◌, ◌-◌, ◌≤◌, ◌<◌}
+use Prim.Native.Nat.{ℕ, ◌+◌, ◌≤◌, ◌<◌}
 use native.Mathlib.Omega.{arith}
 use lib.ListN.{length, length-set}
-use Rattle.slots.specs.ZeroPage.{zeroed}
 use Rattle.slots.proofs.ZeroLoop.{left, left_all, left_next, left_none}
 use Rattle.table.specs.Board.{PAGE-WORDS}
 use Rattle.slots.proofs.zero.zero_page.Goals as goal

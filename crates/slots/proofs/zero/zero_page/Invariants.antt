@@ -1,11 +1,9 @@
 -- `slots::zero::zero_page` meets its contract: the invariant: zeroing the words that are left gives the zeroed page.
-use mathlib.Core.Path.{◌≡◌, refl, sym, ap, ◌∙◌}
-use mathlib.Core.List.{List}
-use Prim.Native.Nat.{ℕ, ◌+◌, ◌-◌, ◌≤◌, ◌<◌}
-use native.Mathlib.Omega.{arith}
-use lib.ListN.{length, length-set}
+use mathlib.Core.Path.{◌≡◌}
+use Prim.Native.Nat.{◌+◌, ◌-◌, ◌≤◌}
+use lib.ListN.{length}
 use Rattle.slots.specs.ZeroPage.{zeroed}
-use Rattle.slots.proofs.ZeroLoop.{left, left_all, left_next, left_none}
+use Rattle.slots.proofs.ZeroLoop.{left}
 use Rattle.table.specs.Board.{PAGE-WORDS}
 use Rattle.slots.proofs.zero.zero_page.Given as goal
 

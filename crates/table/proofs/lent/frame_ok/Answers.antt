@@ -7,7 +7,6 @@ use lib.ListN.{length}
 use lib.Dec.{eqb, leb}
 use lib.Pow.{pow_mono}
 use borrow.Author.Tests.{eq-eqb, ne_eqb, eqb-true, eqb-false, le-leb, lt-leb}
-use borrow.Author.Rules.{rules}
 use Rattle.table.specs.Board.{board}
 use Rattle.model.specs.Frame.{space, bounds_ok, frame_ok}
 use Rattle.laws.proofs.Tests.{tests}

@@ -1,7 +1,6 @@
 -- `table::place::pn1` meets its contract: the definition's own quotient and remainder, in the board's numbers.
 use mathlib.Core.Path.{refl}
 use native.Mathlib.Omega.{arith}
-use borrow.Author.Rules.{rules}
 use Rattle.model.specs.Walk.{pn1}
 use Rattle.table.proofs.place.pn1.Goals as goal
 

@@ -1,5 +1,4 @@
 -- `table::register::is_bare` meets its contract: the definition's own test, on MODE.
-use borrow.Author.Rules.{rules}
 use Rattle.model.specs.Register.{is_bare}
 use Rattle.table.proofs.register.is_bare.Goals as goal
 

@@ -1,6 +1,5 @@
 -- `table::register::mode` meets its contract: quotient of the register as a number, which is below a word's bound.
 use native.Mathlib.Omega.{arith}
-use borrow.Author.Rules.{rules}
 use Rattle.model.specs.Register.{mode_of}
 use Rattle.table.proofs.register.mode.Goals as goal
 

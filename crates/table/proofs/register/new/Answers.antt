@@ -1,5 +1,4 @@
 -- `table::register::new` meets its contract: the fields stand apart, so that their sum is the register and fits a word.
-use borrow.Author.Rules.{rules}
 use Rattle.model.specs.Register.{register_of}
 use Rattle.table.proofs.register.new.Goals as goal
 

@@ -1,6 +1,5 @@
 -- `table::register::ppn` meets its contract: remainder of the register as a number.
 use native.Mathlib.Omega.{arith}
-use borrow.Author.Rules.{rules}
 use Rattle.model.specs.Register.{ppn_of}
 use Rattle.table.proofs.register.ppn.Goals as goal
 

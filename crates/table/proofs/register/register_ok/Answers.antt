@@ -1,5 +1,4 @@
 -- `table::register::register_ok` meets its contract: the definition's own test, on the fields as the leaves read them.
-use borrow.Author.Rules.{rules}
 use Rattle.model.specs.Register.{register_ok}
 use Rattle.table.proofs.register.register_ok.Goals as goal
 

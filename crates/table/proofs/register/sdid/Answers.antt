@@ -1,6 +1,5 @@
 -- `table::register::sdid` meets its contract: quotient and remainder of the register as a number.
 use native.Mathlib.Omega.{arith}
-use borrow.Author.Rules.{rules}
 use Rattle.model.specs.Register.{sdid_of}
 use Rattle.table.proofs.register.sdid.Goals as goal
 

@@ -1,6 +1,5 @@
 -- `table::register::wpri` meets its contract: quotient and remainder of the register as a number.
 use native.Mathlib.Omega.{arith}
-use borrow.Author.Rules.{rules}
 use Rattle.model.specs.Register.{wpri_of}
 use Rattle.table.proofs.register.wpri.Goals as goal
 

@@ -1,6 +1,5 @@
 -- `table::root::entry_at` meets its contract: an entry of a lent page lies inside the lent words.
 use mathlib.Core.Path.{◌∙◌}
-use borrow.Author.Rules.{rules}
 use Rattle.laws.proofs.FrameNumbers.{entry_at_lem}
 use Rattle.table.proofs.root.entry_at.Goals as goal
 

@@ -1,9 +1,6 @@
 -- `table::word::field_found` meets its contract: the reserved bits of all fields are tested by one mask (`clean_by_mask`).
 use mathlib.Core.Path.{sym, ◌∙◌}
-use native.Mathlib.Nat.{mod-lt}
-use lib.Dec.{lit<}
 use borrow.Author.Tests.{eq-eqb, ne_eqb}
-use borrow.Author.Rules.{rules}
 use Rattle.model.specs.Entry.{field_of}
 use Rattle.table.specs.Board.{board}
 use Rattle.laws.proofs.Reserved.{clean_by_mask}

@@ -1,6 +1,5 @@
 -- `table::word::piece` meets its contract: a shift and a remainder read one digit.
 use native.Mathlib.Omega.{arith}
-use borrow.Author.Rules.{rules}
 use Rattle.laws.proofs.Shifts.{digit_of_shift}
 use Rattle.table.proofs.word.piece.Goals as goal
 

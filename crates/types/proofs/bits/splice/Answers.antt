@@ -1,11 +1,8 @@
 -- `types::bits::splice`: a power of two as the unit; the sum fits, since the high part and what is below the unit make at most what 64 bits hold.
 use mathlib.Core.Path.{◌≡◌, ap, sym, subst}
 use Prim.Native.Nat.{ℕ, ◌+◌, ◌*◌, ◌/◌, ◌%◌, ◌^◌, ◌<◌}
-use native.Mathlib.Nat.{div-mul-le_self}
 use native.Mathlib.Omega.{arith}
-use lib.Pow.{pow_pos}
 use Rattle.laws.proofs.Splices.{spliced, splice_lt}
-use borrow.Author.Rules.{rules}
 use Rattle.types.proofs.bits.splice.Goals as goal
 use Rattle.types.proofs.bits.splice.Goals.{After-pow2-unit}
 

@@ -1,7 +1,6 @@
 -- `types::pages::blocks_outside` meets its contract: a block after the end of the range, or before its start, has no page in it.
 use native.Mathlib.Omega.{arith}
 use Rattle.laws.proofs.InRange.{above_false, below_false}
-use borrow.Author.Rules.{rules}
 use Rattle.types.proofs.pages.blocks_outside.Goals as goal
 
 pub returns-then-q-b : goal.returns-then-q-b

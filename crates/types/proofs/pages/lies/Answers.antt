@@ -1,6 +1,5 @@
 -- `types::pages::lies` meets its contract: each end of the run against each end of the range.
 use native.Mathlib.Omega.{arith}
-use borrow.Author.Rules.{rules}
 use Rattle.laws.proofs.InRange.{in_true, below_false, above_false}
 use Rattle.types.proofs.pages.lies.Goals as goal
 

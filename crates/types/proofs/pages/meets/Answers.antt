@@ -8,7 +8,6 @@ use borrow.Author.Tests.{leb-true, leb-false}
 use Rattle.laws.proofs.InRange.{in_true}
 use Rattle.types.specs.Views.{request_of}
 use Rattle.laws.proofs.Choices.{split}
-use borrow.Author.Rules.{rules}
 use Rattle.types.proofs.pages.meets.Goals as goal
 
 pub returns : goal.returns

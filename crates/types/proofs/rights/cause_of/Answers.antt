@@ -1,5 +1,4 @@
 -- `types::rights::cause_of` meets its contract: each kind hands on the access that it is on behalf of.
-use borrow.Author.Rules.{rules}
 use Rattle.model.specs.Access.{original_of}
 use Rattle.types.proofs.rights.cause_of.Goals as goal
 

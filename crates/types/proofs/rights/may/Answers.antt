@@ -1,5 +1,4 @@
 -- `types::rights::may` meets its contract: the code's rows are the model's rows.
-use borrow.Author.Rules.{rules}
 use Rattle.model.specs.Access.{may, may_rows}
 use Rattle.types.proofs.rights.may.Goals as goal
 
