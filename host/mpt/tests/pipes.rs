@@ -6,6 +6,7 @@ use std::io::{Read, Write};
 use std::os::unix::ffi::OsStrExt;
 use std::path::PathBuf;
 use std::process::{Command, Stdio};
+use std::sync::atomic::{AtomicUsize, Ordering};
 
 fn command(words: &[&str]) -> Command {
     let mut command = Command::new(env!("CARGO_BIN_EXE_mpt"));
@@ -24,9 +25,10 @@ fn file(name: &str) -> PathBuf {
     PathBuf::from(env!("CARGO_TARGET_TMPDIR")).join(name)
 }
 
-/// With standard input, and then its end.
+/// With standard input, and then its end. Each call has a file of its own, since tests run side by side.
 fn fed(words: &[&str], input: &[u8]) -> (i32, String, String) {
-    let name = file(&format!("input-{}", words.join("-").replace('/', "_")));
+    static CALLS: AtomicUsize = AtomicUsize::new(0);
+    let name = file(&format!("input-{}", CALLS.fetch_add(1, Ordering::Relaxed)));
     fs::write(&name, input).unwrap();
     let mut command = command(words);
     command.stdin(File::open(name).unwrap());
