@@ -97,5 +97,7 @@ pub extern "C" fn mpt_edit(
     ensures { (result ≡ edit_word (board_frame paw first (length words.old / PAGE-WORDS)) words.old slots.now slot start size (permission_at permission) limit)
         × (words.new ≡ edit_memory (board_frame paw first (length words.old / PAGE-WORDS)) words.old slots.now slot start size (permission_at permission) limit) }
 {
-    api::mpt_edit(paw, first, words, slots, slot, start, size, permission, limit)
+    api::mpt_edit(
+        paw, first, words, slots, slot, start, size, permission, limit,
+    )
 }
