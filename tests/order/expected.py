@@ -86,5 +86,5 @@ sound/pick free_pages(f:Frame,n:usize,free:&Marks): monitor/lib edit_open, slots
     "stands =": "shapes/proofs/Order 2",
     "ahead_start": "sequence/proofs/Facts 2, shapes/proofs/Order 3",
     "ahead_each": "shapes/proofs/Order 2",
-    "facts": "edit/proofs/store_range/Answers 2, edit/proofs/store_range/Invariants, sequence/proofs/Facts 3",
+    "facts": "edit/proofs/store_range/Answers 2, sequence/proofs/Facts 3",
 }
