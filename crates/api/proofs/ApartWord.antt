@@ -1,4 +1,5 @@
 -- A caller in C tests the word for 0, and then the domains are kept apart: a refusal's number is not 0, and the word of a fault is 256 at least.
+use Rattle.std.specs.Prelude.{if◌then◌else◌}
 use mathlib.Core.Path.{◌≡◌, refl}
 use mathlib.Core.Bool.{Bool, true, false, ◌&&◌, ◌||◌}
 use mathlib.Core.List.{List, [], ◌∷◌, ◌++◌, head_d}
@@ -6,7 +7,7 @@ use Prim.Native.Nat.{ℕ, zero, suc}
 use native.Mathlib.Omega.{arith}
 use lib.Dec.{eqb, ltb}
 use borrow.Author.Tests.{eqb-false}
-use Rattle.model.specs.Numbers.{if◌then◌else◌, joined}
+use Rattle.model.specs.Numbers.{joined}
 use Rattle.model.specs.Layout.{slot_count}
 use Rattle.model.specs.Frame.{Frame, space}
 use Rattle.model.specs.Sound.{Slot}

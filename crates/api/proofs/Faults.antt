@@ -1,9 +1,9 @@
 -- A lookup that answers a fault answers that of the original access.
+use Rattle.std.specs.Prelude.{if◌then◌else◌}
 use mathlib.Core.Path.{◌≡◌}
 use mathlib.Core.Bool.{Bool, true, false, not}
 use mathlib.Core.List.{List}
 use Prim.Native.Nat.{ℕ}
-use Rattle.model.specs.Numbers.{if◌then◌else◌}
 use Rattle.model.specs.Entry.{Found, perm, faults}
 use Rattle.model.specs.Frame.{Frame, frame_ok}
 use Rattle.model.specs.Register.{register_ok, is_bare}

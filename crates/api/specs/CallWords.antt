@@ -1,6 +1,5 @@
 -- What each call answers to C, in one word of 64 bits; and the memory that an edit leaves.
-use Rattle.std.specs.Prelude.{List, ℕ, ◌+◌, ◌*◌, get_or}
-use Rattle.model.specs.Numbers.{if◌then◌else◌}
+use Rattle.std.specs.Prelude.{List, ℕ, ◌+◌, ◌*◌, get_or, if◌then◌else◌}
 use Rattle.model.specs.Frame.{Frame, frame_ok}
 use Rattle.model.specs.Access.{Kind}
 use Rattle.model.specs.Lookup.{Privilege, lookup}

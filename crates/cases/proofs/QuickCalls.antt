@@ -1,12 +1,13 @@
 -- An edit with its finished forms, its stores, its memory and the test for a sound table each computed quickly: the same.
 -- Open likewise; and two of its refusals, and a close, from a table that is known to be sound.
+use Rattle.std.specs.Prelude.{if◌then◌else◌}
 use mathlib.Core.Path.{◌≡◌, refl, ap, ap₂, ◌∙◌}
 use mathlib.Core.Bool.{Bool, true, false, not, ◌&&◌, ◌||◌}
 use mathlib.Core.List.{List, [], ◌∷◌, head_d}
 use Prim.Native.Nat.{ℕ, ◌*◌, ◌<◌}
 use lib.Dec.{eqb, ltb}
 use lib.ListN.{length, take, replicate}
-use Rattle.model.specs.Numbers.{if◌then◌else◌, member}
+use Rattle.model.specs.Numbers.{member}
 use Rattle.model.specs.Layout.{gib_blocks, piece_pages, slot_count, max_sdid}
 use Rattle.model.specs.Frame.{Frame, frame_ok, index_of}
 use Rattle.model.specs.Sound.{Slot, is_open, roots, sdids, sound, free_pages}

@@ -1,11 +1,12 @@
 -- The stores of an edit, with the words of L1 pages by runs of pages and read quickly: the same, and quick.
 -- The idea: most L1 entries hold 16 pages of one permission, so their word is that permission times 0x1111111111111111.
+use Rattle.std.specs.Prelude.{if◌then◌else◌}
 use mathlib.Core.Path.{◌≡◌, refl, ap, ap₂, ◌∙◌, fun_ext}
 use mathlib.Core.Bool.{true, false}
 use mathlib.Core.List.{List, [], ◌∷◌, ◌++◌, tail, head_d}
 use Prim.Native.Nat.{ℕ, suc, ◌+◌, ◌*◌, ◌<◌}
 use lib.Dec.{eqb, ltb}
-use Rattle.model.specs.Numbers.{if◌then◌else◌, joined, pack}
+use Rattle.model.specs.Numbers.{joined, pack}
 use Rattle.model.specs.Layout.{block_pages, piece_pages}
 use Rattle.model.specs.Entry.{Entry, flat, pieces, table, invalid, encode}
 use Rattle.model.specs.Frame.{Frame}

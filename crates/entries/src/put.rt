@@ -1,6 +1,5 @@
 // One store, if the limit allows one more.
-ghost use Rattle.model.specs.Numbers.{if◌then◌else◌};
-ghost use Rattle.std.specs.Prelude.{◌≡◌, List, [], ◌∷◌, ◌<◌, eqb, length, get_or};
+ghost use Rattle.std.specs.Prelude.{◌≡◌, List, [], ◌∷◌, ◌<◌, eqb, length, get_or, if◌then◌else◌};
 ghost use Rattle.shapes.specs.Ahead.{Ahead, NextStore};
 ghost use Rattle.shapes.specs.Run.{all_made, out, run};
 ghost use Rattle.table.specs.Stored.{store_of};

@@ -1,7 +1,6 @@
 // The GiBs that a range touches, and the new pages that the whole edit takes.
-ghost use Rattle.model.specs.Numbers.{if◌then◌else◌};
 ghost use Rattle.model.specs.Layout.{gib_blocks};
-ghost use Rattle.std.specs.Prelude.{◌≡◌, false, ◌&&◌, eqb, ◌+◌, ◌*◌, ◌/◌, ◌%◌, ◌≤◌, ◌<◌};
+ghost use Rattle.std.specs.Prelude.{◌≡◌, false, ◌&&◌, eqb, ◌+◌, ◌*◌, ◌/◌, ◌%◌, ◌≤◌, ◌<◌, if◌then◌else◌};
 ghost use Rattle.types.specs.Range.{Fair};
 ghost use Rattle.table.specs.Board.{PIECE-BYTES, frame_of};
 ghost use Rattle.shapes.specs.Blocks.{GibIs, Ranged, whole_pages};

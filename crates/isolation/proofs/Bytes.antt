@@ -1,4 +1,5 @@
 -- One byte stored: which bytes it changes, and which words of the table.
+use Rattle.std.specs.Prelude.{if◌then◌else◌}
 use mathlib.Core.Path.{◌≡◌, refl, sym, ap, ◌∙◌, subst}
 use mathlib.Core.Bool.{Bool, true, false≢true}
 use mathlib.Core.Logic.{◌≢◌}
@@ -11,7 +12,7 @@ use lib.Dec.{eqb}
 use lib.ListN.{length, get_or, length-set}
 use lib.Seq.{get_or-set_same, get_or-set_other}
 use borrow.Author.Tests.{eqb-true}
-use Rattle.model.specs.Numbers.{if◌then◌else◌, digit, joined}
+use Rattle.model.specs.Numbers.{digit, joined}
 use Rattle.model.specs.Bytes.{byte_at, entry_bytes}
 use Rattle.model.specs.Frame.{Frame, page_of, index_of, lent, word_at}
 use Rattle.laws.proofs.Choices.{split}

@@ -1,6 +1,7 @@
 -- The call that tests a table answers `apart` exactly where the premises hold (`test_gives`, `test_passes`). It goes by slot number and gives
 -- the first fault; the premises go by register. An answer of `apart` is a list of faults that is empty, since no fault is called `apart`; and
 -- two open slots of a sound table have two registers, since they have two SDIDs.
+use Rattle.std.specs.Prelude.{if◌then◌else◌}
 use mathlib.Core.Path.{◌≡◌, refl, sym, ap, ap₂, ◌∙◌, subst}
 use mathlib.Core.Bool.{Bool, true, false, not, ◌&&◌, ◌||◌, true≢false, false≢true}
 use mathlib.Core.Logic.{◌≢◌}
@@ -10,7 +11,7 @@ use native.Mathlib.Omega.{arith}
 use lib.Dec.{eqb, ltb}
 use lib.ListN.{length}
 use borrow.Author.Tests.{eqb-true, eqb-false, ltb-true, ltb-false, lt-ltb}
-use Rattle.model.specs.Numbers.{if◌then◌else◌, each, distinct, joined}
+use Rattle.model.specs.Numbers.{each, distinct, joined}
 use Rattle.model.specs.Layout.{slot_count}
 use Rattle.model.specs.Register.{ppn_of, sdid_of}
 use Rattle.model.specs.Frame.{Frame, space, frame_ok}

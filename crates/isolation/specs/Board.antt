@@ -1,6 +1,6 @@
 -- The board memory: pages of bytes. The table is a part of it. (What crates/table calls board is a layout, another thing.)
-use Rattle.std.specs.Prelude.{Bool, false, List, [], ◌∷◌, ℕ, ◌+◌, ◌*◌, ◌%◌, eqb, length, get_or, set}
-use Rattle.model.specs.Numbers.{if◌then◌else◌, joined, pack}
+use Rattle.std.specs.Prelude.{Bool, false, List, [], ◌∷◌, ℕ, ◌+◌, ◌*◌, ◌%◌, eqb, length, get_or, set, if◌then◌else◌}
+use Rattle.model.specs.Numbers.{joined, pack}
 use Rattle.model.specs.Layout.{page_bytes}
 use Rattle.model.specs.Bytes.{entry_bytes}
 use Rattle.model.specs.Frame.{Frame, page_of}

@@ -1,8 +1,7 @@
 -- What our own calls keep of who has which page.
-use Rattle.std.specs.Prelude.{◌≡◌, ◌⊎◌, ◌≢◌, true, false, ℕ, ◌+◌, ◌*◌, ◌≤◌, ◌<◌, eqb, length, take, replicate}
+use Rattle.std.specs.Prelude.{◌≡◌, ◌⊎◌, ◌≢◌, true, false, ℕ, ◌+◌, ◌*◌, ◌≤◌, ◌<◌, eqb, length, take, replicate, if◌then◌else◌}
 use mathlib.Core.List.{List, [], ◌∷◌, head_d}
 use Rattle.std.proofs.lemmas.List.Edits.{sets}
-use Rattle.model.specs.Numbers.{if◌then◌else◌}
 use Rattle.model.specs.Layout.{page_bytes, slot_count}
 use Rattle.model.specs.Frame.{Frame, index_of, lent}
 use Rattle.model.specs.Sound.{Slot, empty_slot, roots, free_pages}

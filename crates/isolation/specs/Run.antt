@@ -1,6 +1,5 @@
 -- A run: "Domains load and store single bytes through the walk, in any order; no edits, no M mode, no Bare."
-use Rattle.std.specs.Prelude.{◌≡◌, Bool, true, false, List, [], ◌∷◌, ℕ, eqb}
-use Rattle.model.specs.Numbers.{if◌then◌else◌}
+use Rattle.std.specs.Prelude.{◌≡◌, Bool, true, false, List, [], ◌∷◌, ℕ, eqb, if◌then◌else◌}
 use Rattle.model.specs.Frame.{Frame}
 use Rattle.model.specs.Access.{Kind, itself, fetch, load, store, Answer, refused, allowed, fault}
 use Rattle.model.specs.Lookup.{lookup, supervisor}

@@ -2,6 +2,7 @@
 -- The idea: a run of pages that lies in the range is of the asked permission; one that misses it is as its L2 entry says, and a flat
 -- entry, one piece of an entry by pieces, or one L1 entry whose fields are all one says one permission for all of them. Any other run is
 -- halved.
+use Rattle.std.specs.Prelude.{if◌then◌else◌}
 use mathlib.Core.Path.{◌≡◌, refl, sym, ap, ap₂, ◌∙◌, fun_ext}
 use mathlib.Core.Bool.{Bool, true, false, ◌&&◌, ◌||◌}
 use mathlib.Core.List.{List, [], ◌∷◌, ◌++◌}
@@ -10,7 +11,7 @@ use native.Mathlib.Nat.{div-add-mod', le-div_iff_mul-le, le_antisymm, mod-lt}
 use native.Mathlib.Omega.{arith}
 use lib.Dec.{eqb, leb, ltb}
 use borrow.Author.Tests.{eqb-true, ltb-true, lt-ltb, le-ltb, leb-true, le-leb, lt-leb}
-use Rattle.model.specs.Numbers.{if◌then◌else◌, every, digit, pack}
+use Rattle.model.specs.Numbers.{every, digit, pack}
 use Rattle.model.specs.Layout.{page_bytes, block_pages, gib_blocks, piece_pages}
 use Rattle.model.specs.Entry.{Entry, flat, pieces, table, invalid, Found, perm, faults, clean, field_of}
 use Rattle.model.specs.Frame.{Frame, lent}

@@ -1,4 +1,5 @@
 -- How often a number stands in a list, and by it `member`, `distinct` and `each`.
+use Rattle.std.specs.Prelude.{if◌then◌else◌}
 use mathlib.Core.Path.{◌≡◌, refl, sym, ap, ◌∙◌, subst}
 use mathlib.Core.Logic.{◌≢◌}
 use mathlib.Core.Bool.{Bool, true, false, not, true≢false}
@@ -9,7 +10,7 @@ use native.Mathlib.Omega.{arith}
 use lib.Dec.{eqb, ltb}
 use lib.ListN.{length}
 use borrow.Author.Tests.{eqb-true, eq-eqb, ne_eqb, ltb-true, ltb-false}
-use Rattle.model.specs.Numbers.{if◌then◌else◌, each, member, distinct}
+use Rattle.model.specs.Numbers.{each, member, distinct}
 use Rattle.laws.proofs.Choices.{split, and_true, and_both, not-true-false}
 use Rattle.laws.proofs.Lists.{each_step, member_step, distinct_step}
 

@@ -1,4 +1,5 @@
 -- What is said of marks: one that is taken away leaves all the others as they were; and where the marks of a word lie.
+use Rattle.std.specs.Prelude.{if◌then◌else◌}
 use mathlib.Core.Path.{◌≡◌, refl, sym, ap, ap₂, ◌∙◌, subst}
 use mathlib.Core.Bool.{Bool, true, false, not, ◌&&◌, false≢true}
 use mathlib.Core.List.{List}
@@ -9,7 +10,7 @@ use lib.Dec.{eqb, ltb}
 use lib.ListN.{length, get_or, set, get_or-eq_default}
 use lib.Seq.{get_or-set_same, get_or-set_other}
 use borrow.Author.Tests.{eqb-true, eqb-false, eq-eqb, ne_eqb, ltb-true, ltb-false}
-use Rattle.model.specs.Numbers.{if◌then◌else◌, every, digit}
+use Rattle.model.specs.Numbers.{every, digit}
 use Rattle.laws.proofs.BinaryDigits.{none_set, taken_digit, other_digit}
 use Rattle.laws.proofs.Every.{every_at}
 use Rattle.marks.specs.Marks.{mark_at, unmark, all_marks}

@@ -1,6 +1,6 @@
 -- Marks as bits of words, the lowest first.
-use Rattle.std.specs.Prelude.{◌≡◌, Bool, true, false, List, ℕ, ◌-◌, ◌/◌, ◌%◌, ◌≤◌, ◌<◌, ◌^◌, eqb, get_or, set, replicate}
-use Rattle.model.specs.Numbers.{if◌then◌else◌, digit}
+use Rattle.std.specs.Prelude.{◌≡◌, Bool, true, false, List, ℕ, ◌-◌, ◌/◌, ◌%◌, ◌≤◌, ◌<◌, ◌^◌, eqb, get_or, set, replicate, if◌then◌else◌}
+use Rattle.model.specs.Numbers.{digit}
 
 abbrev pub Marks : Type 0
 Marks = List ℕ

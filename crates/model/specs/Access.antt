@@ -1,6 +1,5 @@
 -- Kinds of access, what each needs, who may do what, and the cause of a fault.
-use Rattle.std.specs.Prelude.{Bool, true, false, List, [], ◌∷◌, ℕ, get_or}
-use Rattle.model.specs.Numbers.{if◌then◌else◌}
+use Rattle.std.specs.Prelude.{Bool, true, false, List, [], ◌∷◌, ℕ, get_or, if◌then◌else◌}
 use Rattle.model.specs.Entry.{Found, perm, faults}
 
 -- An original access

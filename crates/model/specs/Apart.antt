@@ -1,7 +1,7 @@
 -- Are the domains kept apart? The premises of document 02's item 13 about a table, and the call that tests them.
-use Rattle.std.specs.Prelude.{Bool, false, not, ◌&&◌, ◌||◌, ℕ, eqb, ltb}
+use Rattle.std.specs.Prelude.{Bool, false, not, ◌&&◌, ◌||◌, ℕ, eqb, ltb, if◌then◌else◌}
 use mathlib.Core.List.{List, [], ◌∷◌, ◌++◌, head_d}
-use Rattle.model.specs.Numbers.{if◌then◌else◌, joined, member}
+use Rattle.model.specs.Numbers.{joined, member}
 use Rattle.model.specs.Layout.{slot_count}
 use Rattle.model.specs.Register.{ppn_of}
 use Rattle.model.specs.Entry.{Found, perm, faults}

@@ -1,8 +1,8 @@
 -- Open, close and edit: what each answers, and the memory, the slots and the fence that it leaves. (The lookup is in `Lookup`.)
-use Rattle.std.specs.Prelude.{Bool, not, ◌&&◌, ◌||◌, ℕ, ◌+◌, ◌*◌, ◌%◌, ◌^◌, eqb, ltb, leb, get_or, set, length, take, replicate}
+use Rattle.std.specs.Prelude.{Bool, not, ◌&&◌, ◌||◌, ℕ, ◌+◌, ◌*◌, ◌%◌, ◌^◌, eqb, ltb, leb, get_or, set, length, take, replicate, if◌then◌else◌}
 use mathlib.Core.List.{List, [], ◌∷◌, head_d}
 use Rattle.std.proofs.lemmas.List.Edits.{sets}
-use Rattle.model.specs.Numbers.{if◌then◌else◌, member}
+use Rattle.model.specs.Numbers.{member}
 use Rattle.model.specs.Layout.{page_bytes, gib_blocks, slot_count, max_sdid}
 use Rattle.model.specs.Register.{ppn_of, sdid_of, register_of}
 use Rattle.model.specs.Frame.{Frame, frame_ok, index_of}

@@ -1,7 +1,7 @@
 -- Entries of the tables: what a word says, and the word that says it.
 -- A permission is a number, as the tables hold it: 0 none, 1 rx, 2 rw, 3 rwx.
-use Rattle.std.specs.Prelude.{Bool, not, ℕ, ◌+◌, ◌*◌, ◌/◌, ◌%◌, ◌^◌, eqb, ltb}
-use Rattle.model.specs.Numbers.{if◌then◌else◌, every, digit}
+use Rattle.std.specs.Prelude.{Bool, not, ℕ, ◌+◌, ◌*◌, ◌/◌, ◌%◌, ◌^◌, eqb, ltb, if◌then◌else◌}
+use Rattle.model.specs.Numbers.{every, digit}
 use Rattle.model.specs.Layout.{Layout}
 
 -- What an L2 entry says of its block: one permission (a "1G" type); a permission for each piece, two bits each, lowest first;

@@ -1,6 +1,5 @@
 -- Which fence a call asks for.
-use Rattle.std.specs.Prelude.{Bool, false, not, ◌&&◌, List, [], ◌∷◌, ℕ, eqb, ltb, leb, length, take}
-use Rattle.model.specs.Numbers.{if◌then◌else◌}
+use Rattle.std.specs.Prelude.{Bool, false, not, ◌&&◌, List, [], ◌∷◌, ℕ, eqb, ltb, leb, length, take, if◌then◌else◌}
 use Rattle.model.specs.Layout.{page_bytes}
 use Rattle.model.specs.Frame.{Frame, blocks, index_of}
 use Rattle.model.specs.Forms.{Request}

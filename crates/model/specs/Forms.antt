@@ -1,6 +1,6 @@
 -- An edit's range, the permissions once it is whole, and the finished form of each block.
-use Rattle.std.specs.Prelude.{Bool, ◌&&◌, List, [], ◌∷◌, ◌++◌, ℕ, zero, suc, ◌+◌, ◌*◌, ◌-◌, ◌/◌, eqb, ltb, leb}
-use Rattle.model.specs.Numbers.{if◌then◌else◌, every, pack}
+use Rattle.std.specs.Prelude.{Bool, ◌&&◌, List, [], ◌∷◌, ◌++◌, ℕ, zero, suc, ◌+◌, ◌*◌, ◌-◌, ◌/◌, eqb, ltb, leb, if◌then◌else◌}
+use Rattle.model.specs.Numbers.{every, pack}
 use Rattle.model.specs.Layout.{page_bytes, block_pages, gib_bytes, gib_blocks, gib_pages, piece_pages}
 use Rattle.model.specs.Entry.{Entry, Found, perm, faults}
 use Rattle.model.specs.Frame.{Frame}

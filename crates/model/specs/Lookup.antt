@@ -1,6 +1,5 @@
 -- The lookup, and how an address reads.
-use Rattle.std.specs.Prelude.{Bool, true, false, not, List, ℕ}
-use Rattle.model.specs.Numbers.{if◌then◌else◌}
+use Rattle.std.specs.Prelude.{Bool, true, false, not, List, ℕ, if◌then◌else◌}
 use Rattle.model.specs.Register.{ppn_of, is_bare, register_ok}
 use Rattle.model.specs.Frame.{Frame, page_of, frame_ok}
 use Rattle.model.specs.Walk.{walk}

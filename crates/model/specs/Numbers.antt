@@ -1,10 +1,5 @@
--- Plain helpers: a choice, tests and lists over a run of numbers, lists as sets, and numbers written in digits.
+-- Plain helpers: tests and lists over a run of numbers, lists as sets, and numbers written in digits.
 use Rattle.std.specs.Prelude.{Bool, true, false, List, [], ◌∷◌, ◌++◌, ℕ, zero, suc, ◌+◌, ◌*◌, ◌/◌, ◌%◌, ◌^◌, eqb}
-
-infix 10 if◌then◌else◌
-abbrev pub if◌then◌else◌ {ℓ} : {A : Type ℓ} → Bool → A → A → A
-if true then a else b = a
-if false then a else b = b
 
 -- the n numbers from s: does each pass the test? It stops at the first that fails
 unfoldable pub every : (ℕ → Bool) → ℕ → ℕ → Bool

@@ -1,6 +1,6 @@
 -- Slots, the pages in use, a sound table, and the free pages.
-use Rattle.std.specs.Prelude.{Bool, true, false, not, ◌&&◌, List, [], ◌∷◌, ◌++◌, map, ℕ, eqb}
-use Rattle.model.specs.Numbers.{if◌then◌else◌, every, joined, each, member, distinct}
+use Rattle.std.specs.Prelude.{Bool, true, false, not, ◌&&◌, List, [], ◌∷◌, ◌++◌, map, ℕ, eqb, if◌then◌else◌}
+use Rattle.model.specs.Numbers.{every, joined, each, member, distinct}
 use Rattle.model.specs.Register.{ppn_of, wpri_of, sdid_of, mode_of}
 use Rattle.model.specs.Entry.{Entry, flat, pieces, table, invalid, clean}
 use Rattle.model.specs.Frame.{Frame, blocks, lent, word_at}

@@ -1,7 +1,7 @@
 -- The ordered list of an edit's stores, and how many new pages it takes.
-use Rattle.std.specs.Prelude.{Bool, true, false, ℕ, suc, ◌+◌, eqb, set}
+use Rattle.std.specs.Prelude.{Bool, true, false, ℕ, suc, ◌+◌, eqb, set, if◌then◌else◌}
 use mathlib.Core.List.{List, [], ◌∷◌, ◌++◌, tail, head_d}
-use Rattle.model.specs.Numbers.{if◌then◌else◌, joined}
+use Rattle.model.specs.Numbers.{joined}
 use Rattle.model.specs.Entry.{Entry, flat, pieces, table, invalid, encode}
 use Rattle.model.specs.Frame.{Frame, index_of, word_at}
 use Rattle.model.specs.Walk.{entry_page, entry_place, l2_word, entry_at}

@@ -1,6 +1,6 @@
 -- The walk: from a root page and the page number of an address to what stands there.
-use Rattle.std.specs.Prelude.{List, [], ◌∷◌, ℕ, ◌/◌, ◌%◌, ltb}
-use Rattle.model.specs.Numbers.{if◌then◌else◌, digit}
+use Rattle.std.specs.Prelude.{List, [], ◌∷◌, ℕ, ◌/◌, ◌%◌, ltb, if◌then◌else◌}
+use Rattle.model.specs.Numbers.{digit}
 use Rattle.model.specs.Layout.{Layout, block_pages, piece_pages}
 use Rattle.model.specs.Entry.{Entry, flat, pieces, table, invalid, Found, perm, faults, decode, field_of}
 use Rattle.model.specs.Frame.{Frame, space, lent, word_at}

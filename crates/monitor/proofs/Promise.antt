@@ -5,6 +5,7 @@
 --
 -- The calls are a list of cuts: a call that returns leaves what its limit lets it store, and one that is reset what it had stored. So
 -- `demand3` speaks of them, and the contract's equation says what the answer is.
+use Rattle.std.specs.Prelude.{if◌then◌else◌}
 use mathlib.Core.Path.{◌≡◌, refl, sym, ap, ap₂, ◌∙◌, subst}
 use mathlib.Core.Logic.{inl, inr}
 use mathlib.Core.Bool.{Bool, true, false, false≢true}
@@ -16,7 +17,6 @@ use Rattle.laws.proofs.Choices.{split}
 use lib.Dec.{eqb, leb}
 use lib.ListN.{get_or, length, take, length-take}
 use lib.Seq.{take_all}
-use Rattle.model.specs.Numbers.{if◌then◌else◌}
 use Rattle.model.specs.Frame as Frames
 use Rattle.model.specs.Forms.{Request}
 use Rattle.model.specs.Stores.{Store, apply}

@@ -1,7 +1,6 @@
 -- What a caller of `monitor::edit` may rely on when calls are cut, the contract and the third demand together: `Recovers` of the memory, wherever
 -- the last call ended; `Kept` of what the next one answers and leaves.
-use Rattle.std.specs.Prelude.{◌≡◌, ◌⊎◌, ◌≢◌, Bool, true, List, [], ◌∷◌, ℕ, ◌≤◌, suc, ◌+◌, ◌-◌, ◌*◌, ◌^◌, eqb}
-use Rattle.model.specs.Numbers.{if◌then◌else◌}
+use Rattle.std.specs.Prelude.{◌≡◌, ◌⊎◌, ◌≢◌, Bool, true, List, [], ◌∷◌, ℕ, ◌≤◌, suc, ◌+◌, ◌-◌, ◌*◌, ◌^◌, eqb, if◌then◌else◌}
 use Rattle.model.specs.Forms.{Request}
 use Rattle.model.specs.Calls.{edit_refusal, edit_slot}
 use Rattle.model.specs.Demands.{Accepted, BeforeOrAfter, Done, SamePermissions, Steady, free_count, stopped, whole}

@@ -1,4 +1,5 @@
 -- Refusals 1 and 3, once for every call: whatever tests come after, a call that is not admitted is refused with the number that `admit` answers.
+use Rattle.std.specs.Prelude.{if◌then◌else◌}
 use mathlib.Core.Path.{◌≡◌, refl, sym, ap, ◌∙◌}
 use mathlib.Core.Bool.{Bool, true, false, not, true≢false}
 use mathlib.Core.List.{List, ◌∷◌}
@@ -6,7 +7,6 @@ use Prim.Native.Nat.{ℕ}
 use native.Mathlib.Omega.{arith}
 use lib.Dec.{eqb}
 use borrow.Author.Tests.{ne_eqb}
-use Rattle.model.specs.Numbers.{if◌then◌else◌}
 use Rattle.model.specs.Frame.{Frame, frame_ok}
 use Rattle.model.specs.Sound.{Slot, sound}
 use Rattle.model.specs.Calls.{Outcome, first_met, refuse}

@@ -1,11 +1,12 @@
 -- Marks: a pass that takes marks away one after the other finds whether the places are distinct, and leaves all the others.
+use Rattle.std.specs.Prelude.{if◌then◌else◌}
 use mathlib.Core.Path.{◌≡◌, refl, sym, ap, ap₂, ◌∙◌}
 use mathlib.Core.Bool.{Bool, true, false, ◌&&◌, ◌||◌, not}
 use mathlib.Core.List.{List, [], ◌∷◌, ◌++◌}
 use Prim.Native.Nat.{ℕ, zero, suc}
 use lib.Dec.{eqb, ltb}
 use borrow.Author.Tests.{ltb-true}
-use Rattle.model.specs.Numbers.{if◌then◌else◌, every, joined, each, member, distinct}
+use Rattle.model.specs.Numbers.{every, joined, each, member, distinct}
 use Rattle.laws.proofs.Choices.{and_true, and_assoc}
 use Rattle.laws.proofs.Every.{every_step}
 use Rattle.laws.proofs.Lists.{each_step, member_step, distinct_step}

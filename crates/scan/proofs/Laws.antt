@@ -1,4 +1,5 @@
 -- What callers use: a lent page of a sound table is marked exactly when it is free; free pages are lent.
+use Rattle.std.specs.Prelude.{if◌then◌else◌}
 use mathlib.Core.Path.{◌≡◌, refl, sym, ap, ap₂, ◌∙◌}
 use mathlib.Core.Bool.{Bool, true, false, not, ◌&&◌, ◌||◌, true≢false}
 use mathlib.Core.List.{List, [], ◌∷◌, ◌++◌, map, head_d}
@@ -7,7 +8,7 @@ use native.Mathlib.Omega.{arith}
 use lib.Dec.{eqb}
 use lib.ListN.{length}
 use borrow.Author.Tests.{le-leb, lt-ltb, eq-eqb, ne_eqb, eqb-true, eqb-false}
-use Rattle.model.specs.Numbers.{if◌then◌else◌, each, joined, member}
+use Rattle.model.specs.Numbers.{each, joined, member}
 use Rattle.model.specs.Frame.{Frame, lent}
 use Rattle.model.specs.Sound.{Slot, roots, used, sound_slots, sound_table, sound, free_of, free_pages}
 use Rattle.laws.proofs.Choices.{and_true, split}

@@ -1,4 +1,5 @@
 -- The two passes, over the registers and over the tables, find what the definition of a sound table says.
+use Rattle.std.specs.Prelude.{if◌then◌else◌}
 use mathlib.Core.Path.{◌≡◌, refl, sym, ap, ap₂, ◌∙◌}
 use mathlib.Core.Bool.{Bool, true, false, ◌&&◌, false≢true}
 use mathlib.Core.List.{List, [], ◌∷◌, ◌++◌, map, map-append}
@@ -7,7 +8,7 @@ use native.Mathlib.Nat.{mod-lt, lt_of_lt_of_le}
 use native.Mathlib.Omega.{arith}
 use lib.Dec.{eqb, ltb, lit<, lit≤}
 use borrow.Author.Tests.{lt-ltb}
-use Rattle.model.specs.Numbers.{if◌then◌else◌, every, joined, each, distinct}
+use Rattle.model.specs.Numbers.{every, joined, each, distinct}
 use Rattle.model.specs.Register.{ppn_of, wpri_of, sdid_of, mode_of}
 use Rattle.model.specs.Entry.{Entry, flat, pieces, table, invalid}
 use Rattle.model.specs.Layout.{Layout}

@@ -1,6 +1,6 @@
 -- What each call but a lookup asks first, and what stands once neither refusal fits.
-use Rattle.std.specs.Prelude.{◌≡◌, true, List, ℕ, ◌-◌}
-use Rattle.model.specs.Numbers.{if◌then◌else◌, member}
+use Rattle.std.specs.Prelude.{◌≡◌, true, List, ℕ, ◌-◌, if◌then◌else◌}
+use Rattle.model.specs.Numbers.{member}
 use Rattle.model.specs.Frame.{Frame, frame_ok, lent}
 use Rattle.model.specs.Sound.{Slot, roots, sound, free_pages}
 use Rattle.types.specs.declared.Admission.{Admission}

@@ -1,7 +1,7 @@
 -- The free pages by the marks alone.
 use mathlib.Core.List.{List, [], ◌∷◌, head_d, tail}
-use Rattle.std.specs.Prelude.{ℕ, ◌-◌, length, take}
-use Rattle.model.specs.Numbers.{if◌then◌else◌, joined}
+use Rattle.std.specs.Prelude.{ℕ, ◌-◌, length, take, if◌then◌else◌}
+use Rattle.model.specs.Numbers.{joined}
 use Rattle.model.specs.Frame.{Frame}
 use Rattle.types.specs.declared.Free.{Free}
 use Rattle.marks.specs.Marks.{Marks, mark_at}

@@ -1,6 +1,5 @@
 -- The pass over a table: a page that is met loses its mark, and one that has lost it was met before. The contracts of `sound` cite this.
-use Rattle.std.specs.Prelude.{Bool, true, false, ◌&&◌, List, [], ◌∷◌, ℕ, zero, suc, ◌+◌, ◌-◌, ◌/◌, ◌%◌, ◌^◌, eqb, ltb, get_or}
-use Rattle.model.specs.Numbers.{if◌then◌else◌}
+use Rattle.std.specs.Prelude.{Bool, true, false, ◌&&◌, List, [], ◌∷◌, ℕ, zero, suc, ◌+◌, ◌-◌, ◌/◌, ◌%◌, ◌^◌, eqb, ltb, get_or, if◌then◌else◌}
 use Rattle.model.specs.Layout.{Layout}
 use Rattle.model.specs.Register.{ppn_of, wpri_of, sdid_of, mode_of}
 use Rattle.model.specs.Entry.{Entry, flat, pieces, table, invalid, decode}

@@ -1,5 +1,6 @@
 -- An edit between two of its blocks: those below b are done, and what the memory as it stands has of the blocks ahead is what the edit found. So
 -- their forms, their stores and their new pages are the same from both.
+use Rattle.std.specs.Prelude.{if◌then◌else◌}
 use mathlib.Core.Path.{◌≡◌, refl, sym, ap, ap₂, ◌∙◌}
 use mathlib.Core.Bool.{Bool}
 use mathlib.Core.Logic.{⊎_elim}
@@ -13,7 +14,6 @@ use Rattle.model.specs.Entry.{Entry, perm}
 use Rattle.model.specs.Forms.{Request, Form, in_range, after, form_in, forms_in, gib_first, gib_is_one, forms, first_gib, gibs}
 use Rattle.model.specs.Frame.{Frame, blocks, space}
 use Rattle.model.specs.Layout.{gib_blocks}
-use Rattle.model.specs.Numbers.{if◌then◌else◌}
 use Rattle.model.specs.Stores.{Store, block_stores, needs_page, stores_from, new_pages}
 use Rattle.model.specs.Walk.{entry_at, walk}
 use Rattle.theory.proofs.Finds.{after_outside, after_inside}

@@ -1,5 +1,6 @@
 -- From the stores that were made to the answer: a run of the whole list says how many were made and whether that was all, and that decides the
 -- memory, the count and the fence.
+use Rattle.std.specs.Prelude.{if◌then◌else◌}
 use mathlib.Core.Path.{◌≡◌, refl, sym, ap, ap₂, ◌∙◌}
 use mathlib.Core.Bool.{Bool, true, false, not, ◌&&◌}
 use mathlib.Core.List.{List, [], ◌∷◌}
@@ -20,7 +21,6 @@ use Rattle.model.specs.Fence.{no_fence, domain_fence, address_fence, in_root, on
 use Rattle.model.specs.Forms.{Request, first_gib, forms}
 use Rattle.model.specs.Frame.{Frame}
 use Rattle.model.specs.Layout.{gib_blocks, page_bytes}
-use Rattle.model.specs.Numbers.{if◌then◌else◌}
 use Rattle.model.specs.Sound.{roots, free_pages}
 use Rattle.model.specs.Stores.{Store, apply, new_pages}
 use Rattle.theory.proofs.PagesTaken.{same_pages}

@@ -1,4 +1,5 @@
 -- Several blocks of one GiB: their stores, made one block after the other, take the edit on by as many blocks, or the limit cuts the whole edit.
+use Rattle.std.specs.Prelude.{if◌then◌else◌}
 use mathlib.Core.Path.{◌≡◌, refl, sym, ap, ap₂, ◌∙◌, subst, subst₂}
 use mathlib.Core.Bool.{Bool}
 use mathlib.Core.List.{List, ◌++◌, head_d, tail}
@@ -11,7 +12,6 @@ use Rattle.laws.proofs.Choices.{split}
 use Rattle.model.specs.Forms.{Request, first_gib, gibs, forms_in}
 use Rattle.model.specs.Frame.{Frame}
 use Rattle.model.specs.Layout.{gib_blocks}
-use Rattle.model.specs.Numbers.{if◌then◌else◌}
 use Rattle.model.specs.Stores.{Store, needs_page, stores_from, new_pages}
 use Rattle.model.specs.Walk.{entry_at}
 use Rattle.types.specs.declared.Budget.{Budget}

@@ -1,5 +1,6 @@
 -- One more block: its form heads those that are left, so its stores head the stores that are left; once they are made the edit stands before
 -- the block behind it, and if the limit cuts them it cuts the whole.
+use Rattle.std.specs.Prelude.{if◌then◌else◌}
 use mathlib.Core.Path.{◌≡◌, refl, sym, ap, ◌∙◌, subst, subst₂}
 use mathlib.Core.Bool.{Bool, true, false}
 use mathlib.Core.List.{List, [], ◌∷◌, ◌++◌, append_assoc, head_d, tail}
@@ -13,7 +14,6 @@ use Rattle.laws.proofs.Times.{head_times}
 use Rattle.model.specs.Forms.{Request, Form, after, form_in, forms_in, gib_is_one, first_gib, gibs}
 use Rattle.model.specs.Frame.{Frame}
 use Rattle.model.specs.Layout.{gib_blocks}
-use Rattle.model.specs.Numbers.{if◌then◌else◌}
 use Rattle.model.specs.Stores.{Store, apply, needs_page, stores_from, new_pages}
 use Rattle.model.specs.Walk.{entry_at}
 use Rattle.theory.proofs.Frames.{lent_ppn}

@@ -1,6 +1,5 @@
 -- What an edit that no refusal fits answers.
-use Rattle.std.specs.Prelude.{◌≡◌, Bool, not, ◌&&◌, List, ℕ, eqb, leb, length, take}
-use Rattle.model.specs.Numbers.{if◌then◌else◌}
+use Rattle.std.specs.Prelude.{◌≡◌, Bool, not, ◌&&◌, List, ℕ, eqb, leb, length, take, if◌then◌else◌}
 use Rattle.model.specs.Layout.{page_bytes}
 use Rattle.model.specs.Frame.{Frame}
 use Rattle.model.specs.Forms.{Request}

@@ -1,5 +1,6 @@
 -- Several blocks of one GiB at once: where each block's stores are that of its entry, if it changes, those of a row of entries are those
 -- of its blocks.
+use Rattle.std.specs.Prelude.{if◌then◌else◌}
 use mathlib.Core.Path.{◌≡◌, refl, sym, ap, ap₂, ◌∙◌}
 use mathlib.Core.Bool.{Bool, true, false}
 use mathlib.Core.List.{List, [], ◌∷◌, ◌++◌, append_assoc, append-nil, head_d, tail}
@@ -14,7 +15,7 @@ use Rattle.model.specs.Entry.{Entry, flat, pieces, table, invalid, decode, encod
 use Rattle.model.specs.Forms.{Request, Form, want_pieces, form_in, forms_in, in_range, pieces_are_one, pieces_info}
 use Rattle.model.specs.Frame.{Frame, lent, index_of, word_at}
 use Rattle.model.specs.Layout.{block_pages}
-use Rattle.model.specs.Numbers.{if◌then◌else◌, joined}
+use Rattle.model.specs.Numbers.{joined}
 use Rattle.model.specs.Stores.{Store, store_at, store_l2, if_changed_l2, block_stores, needs_page, new_pages, stores_from}
 use Rattle.model.specs.Walk.{entry_at, entry_page, entry_place, l2_word}
 use Rattle.theory.proofs.Entries.{Small, decode_small}

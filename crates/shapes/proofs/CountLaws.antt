@@ -1,4 +1,5 @@
 -- The new pages of an edit. Only the blocks at the two ends of the range can take one.
+use Rattle.std.specs.Prelude.{if◌then◌else◌}
 use mathlib.Core.Path.{◌≡◌, refl, sym, ap, ap₂, ◌∙◌, subst}
 use mathlib.Core.Bool.{Bool, true, false}
 use mathlib.Core.Logic.{◌≢◌}
@@ -17,7 +18,7 @@ use Rattle.model.specs.Entry.{Entry, flat, pieces, table, invalid}
 use Rattle.model.specs.Forms.{Request, Form, want_flat, want_pieces, want_table, in_range, perm_of, after_in, all_are, form_in, gib_first, gib_is_one, forms, first_gib, gibs}
 use Rattle.model.specs.Frame.{Frame, blocks}
 use Rattle.model.specs.Layout.{block_pages, gib_blocks, page_bytes, piece_pages}
-use Rattle.model.specs.Numbers.{if◌then◌else◌, digit, pack}
+use Rattle.model.specs.Numbers.{digit, pack}
 use Rattle.model.specs.Stores.{needs_page, new_pages}
 use Rattle.model.specs.Walk.{entry_at, found}
 use Rattle.theory.proofs.Forms.{forms_all, forms_length}

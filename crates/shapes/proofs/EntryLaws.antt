@@ -1,4 +1,5 @@
 -- The words of an L1 page, before the edit and after it, by runs of pages: inside the range, outside, and across an end.
+use Rattle.std.specs.Prelude.{if◌then◌else◌}
 use mathlib.Core.Path.{◌≡◌, sym, ap, ◌∙◌}
 use mathlib.Core.Bool.{Bool, true, false, ◌&&◌}
 use mathlib.Core.List.{List}
@@ -14,7 +15,7 @@ use Rattle.model.specs.Entry.{Entry, flat, pieces, table, invalid}
 use Rattle.model.specs.Forms.{Request, in_range, perm_of, after_in, all_are, l1_word}
 use Rattle.model.specs.Frame.{Frame, word_at}
 use Rattle.model.specs.Layout.{block_pages, piece_pages}
-use Rattle.model.specs.Numbers.{if◌then◌else◌, every, digit, pack}
+use Rattle.model.specs.Numbers.{every, digit, pack}
 use Rattle.model.specs.Walk.{found}
 use Rattle.shapes.specs.Rooted.{Good}
 use Rattle.shapes.specs.Words.{piece_words, spread_of, old_word, mixed_at}

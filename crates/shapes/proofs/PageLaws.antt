@@ -1,4 +1,5 @@
 -- The L1 page of a block: one word of it stored, and what that leaves of every other word; its entries from two memories.
+use Rattle.std.specs.Prelude.{if◌then◌else◌}
 use mathlib.Core.Path.{◌≡◌, refl, sym, ap, ap₂, ◌∙◌, subst}
 use mathlib.Core.Bool.{true, false}
 use mathlib.Core.List.{List, [], ◌∷◌, ◌++◌}
@@ -18,7 +19,7 @@ use Rattle.model.specs.Entry.{Entry, flat, pieces, table, invalid, Found, clean,
 use Rattle.model.specs.Forms.{Request, Form, want_flat, want_pieces, want_table, in_range, perm_of, after_in, l1_word}
 use Rattle.model.specs.Frame.{Frame, lent, word_at, index_of}
 use Rattle.model.specs.Layout.{block_pages}
-use Rattle.model.specs.Numbers.{if◌then◌else◌, joined, digit, pack}
+use Rattle.model.specs.Numbers.{joined, digit, pack}
 use Rattle.model.specs.Stores.{Store, apply, store_at, store_l2, if_changed, if_changed_l2, same_table, new_table, link_table, block_stores}
 use Rattle.model.specs.Walk.{pn1, l2_word}
 use Rattle.theory.proofs.Along.{apply_none, apply_one}

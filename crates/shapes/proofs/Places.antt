@@ -1,4 +1,5 @@
 -- One word of a page: the store into it, as the code says it and as the model does; and the frame beside memories of one length.
+use Rattle.std.specs.Prelude.{if◌then◌else◌}
 use mathlib.Core.Path.{◌≡◌, sym, ap, ap₂, ◌∙◌, subst}
 use mathlib.Core.Bool.{true}
 use mathlib.Core.List.{List, [], ◌∷◌}
@@ -8,7 +9,6 @@ use lib.ListN.{length, get_or}
 use Rattle.laws.proofs.FrameNumbers.{index_add}
 use Rattle.model.specs.Entry.{Entry}
 use Rattle.model.specs.Frame.{Frame, lent, word_at, index_of}
-use Rattle.model.specs.Numbers.{if◌then◌else◌}
 use Rattle.model.specs.Stores.{Store, store_at, if_changed}
 use Rattle.types.specs.declared.Budget.{Budget}
 use Rattle.shapes.specs.Ahead.{Ahead}

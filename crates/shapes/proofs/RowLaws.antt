@@ -1,5 +1,6 @@
 -- A row of neighbouring words: a store of one of them keeps the others, so that those before place i are done and those from there on stand
 -- as they were; and a row that changes throughout is stored whole.
+use Rattle.std.specs.Prelude.{if◌then◌else◌}
 use mathlib.Core.Path.{◌≡◌, refl, sym, ap, ap₂, ◌∙◌, subst}
 use mathlib.Core.Bool.{Bool, true, false}
 use mathlib.Core.List.{List, [], ◌∷◌, ◌++◌, append-nil}
@@ -12,7 +13,7 @@ use borrow.Author.Tests.{eqb-true, eqb-false}
 use Rattle.laws.proofs.Choices.{split, not-true-false}
 use Rattle.laws.proofs.Every.{every_in}
 use Rattle.laws.proofs.Lists.{joined_append, joined_cong}
-use Rattle.model.specs.Numbers.{if◌then◌else◌, every, joined}
+use Rattle.model.specs.Numbers.{every, joined}
 use Rattle.model.specs.Stores.{Store, apply}
 use Rattle.types.specs.declared.Budget.{Budget}
 use Rattle.shapes.specs.Ahead.{Ahead}

@@ -1,4 +1,5 @@
 -- The slots one after another: those that are left decide whether an SDID is held; and so do the words that are left of a page to zero.
+use Rattle.std.specs.Prelude.{if◌then◌else◌}
 use mathlib.Core.Path.{◌≡◌, refl, sym, ap, ap₂, ◌∙◌}
 use mathlib.Core.Bool.{Bool, true, false, not, ◌&&◌, ◌||◌}
 use mathlib.Core.List.{List, ◌∷◌, map}
@@ -11,7 +12,7 @@ use lib.ListN.{length, get_or, set, drop, drop_of_length-le, replicate}
 use lib.Seq.{drop-cons, sets}
 use borrow.Author.Tests.{ltb-true, ltb-false}
 use Rattle.model.specs.Layout.{Layout, slot_count, max_sdid}
-use Rattle.model.specs.Numbers.{if◌then◌else◌, member}
+use Rattle.model.specs.Numbers.{member}
 use Rattle.model.specs.Register.{sdid_of}
 use Rattle.model.specs.Sound.{Slot, register, is_open, open_registers}
 use Rattle.laws.proofs.Choices.{not-false-true, or_false}

@@ -1,6 +1,6 @@
 -- Rows of neighbouring words: each stored if it changes, or all stored.
-use Rattle.std.specs.Prelude.{◌≡◌, Bool, not, List, [], ◌∷◌, ℕ, ◌+◌, ◌*◌, ◌^◌, ◌≤◌, ◌<◌, eqb, get_or}
-use Rattle.model.specs.Numbers.{if◌then◌else◌, joined}
+use Rattle.std.specs.Prelude.{◌≡◌, Bool, not, List, [], ◌∷◌, ℕ, ◌+◌, ◌*◌, ◌^◌, ◌≤◌, ◌<◌, eqb, get_or, if◌then◌else◌}
+use Rattle.model.specs.Numbers.{joined}
 use Rattle.model.specs.Layout.{Layout}
 use Rattle.model.specs.Entry as entry
 use Rattle.model.specs.Stores as stores

@@ -1,6 +1,6 @@
 -- An L1 entry as it stands, or as its L2 entry gives it; and one across an end of the range.
-use Rattle.std.specs.Prelude.{List, ℕ, ◌-◌, ◌*◌, ◌/◌, ◌^◌}
-use Rattle.model.specs.Numbers.{if◌then◌else◌, digit}
+use Rattle.std.specs.Prelude.{List, ℕ, ◌-◌, ◌*◌, ◌/◌, ◌^◌, if◌then◌else◌}
+use Rattle.model.specs.Numbers.{digit}
 use Rattle.model.specs.Layout.{Layout}
 use Rattle.model.specs.Entry as entry
 use Rattle.model.specs.Frame as frame

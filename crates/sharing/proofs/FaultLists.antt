@@ -1,4 +1,5 @@
 -- Lists of faults: whether there is one, and which is the first of many lists.
+use Rattle.std.specs.Prelude.{if◌then◌else◌}
 use mathlib.Core.Path.{◌≡◌, refl, sym, ap, ◌∙◌}
 use mathlib.Core.Bool.{Bool, true, false, true≢false, false≢true}
 use mathlib.Core.List.{List, [], ◌∷◌, ◌++◌, head_d}
@@ -6,7 +7,7 @@ use Prim.Native.Nat.{ℕ, suc, ◌+◌, ◌-◌, ◌≤◌, ◌<◌}
 use native.Mathlib.Nat.{zero-add}
 use native.Mathlib.Omega.{arith}
 use lib.ListN.{length}
-use Rattle.model.specs.Numbers.{if◌then◌else◌, joined}
+use Rattle.model.specs.Numbers.{joined}
 use Rattle.model.specs.Apart.{Separation, apart}
 use Rattle.laws.proofs.Lists.{joined_none, joined_skip}
 use Rattle.sharing.specs.First.{First}

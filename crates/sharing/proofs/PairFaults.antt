@@ -1,4 +1,5 @@
 -- Pages that two slots share: there are such two exactly if the page is crowded; and the first two, slot by slot.
+use Rattle.std.specs.Prelude.{if◌then◌else◌}
 use mathlib.Core.Path.{◌≡◌, refl, sym, ap, ap₂, ◌∙◌}
 use mathlib.Core.Bool.{Bool, true, false, ◌&&◌, ◌||◌, true≢false, false≢true}
 use mathlib.Core.List.{List, head_d}
@@ -8,7 +9,7 @@ use native.Mathlib.Omega.{arith}
 use lib.Dec.{eqb, ltb, leb}
 use lib.ListN.{length}
 use borrow.Author.Tests.{eqb-false, eq-eqb, ne_eqb, ltb-true, ltb-false, lt-ltb, le-leb, leb-true}
-use Rattle.model.specs.Numbers.{if◌then◌else◌, joined}
+use Rattle.model.specs.Numbers.{joined}
 use Rattle.model.specs.Layout.{slot_count}
 use Rattle.model.specs.Entry.{perm}
 use Rattle.model.specs.Frame.{Frame}

@@ -1,6 +1,5 @@
 -- How many slots have a page open, and how many reach it.
-use Rattle.std.specs.Prelude.{◌≡◌, Bool, true, ◌&&◌, List, ℕ, ◌+◌, ◌*◌, ◌/◌, ◌%◌, ◌≤◌, ◌<◌, leb, length, get_or}
-use Rattle.model.specs.Numbers.{if◌then◌else◌}
+use Rattle.std.specs.Prelude.{◌≡◌, Bool, true, ◌&&◌, List, ℕ, ◌+◌, ◌*◌, ◌/◌, ◌%◌, ◌≤◌, ◌<◌, leb, length, get_or, if◌then◌else◌}
 use Rattle.model.specs.Layout.{Layout, slot_count, block_pages, piece_pages}
 use Rattle.model.specs.Register.{ppn_of}
 use Rattle.model.specs.Entry.{Entry, flat, pieces, table, invalid, Found}

@@ -1,6 +1,6 @@
 -- What is at fault with a page, by what each slot may do there.
-use Rattle.std.specs.Prelude.{Bool, true, false, ◌&&◌, ◌||◌, List, [], ◌∷◌, ℕ}
-use Rattle.model.specs.Numbers.{if◌then◌else◌, joined}
+use Rattle.std.specs.Prelude.{Bool, true, false, ◌&&◌, ◌||◌, List, [], ◌∷◌, ℕ, if◌then◌else◌}
+use Rattle.model.specs.Numbers.{joined}
 use Rattle.model.specs.Layout.{slot_count}
 use Rattle.model.specs.Register.{ppn_of}
 use Rattle.model.specs.Entry.{perm}

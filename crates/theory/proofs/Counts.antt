@@ -1,4 +1,5 @@
 -- How many stores an edit makes at most.
+use Rattle.std.specs.Prelude.{if◌then◌else◌}
 use mathlib.Core.Path.{◌≡◌, refl, sym, ap, ap₂, ◌∙◌, subst}
 use mathlib.Core.Bool.{Bool, true, false, false≢true}
 use mathlib.Core.Logic.{◌≢◌, ⊎_elim}
@@ -10,7 +11,7 @@ use lib.Dec.{eqb}
 use lib.Pow.{pow_mono}
 use lib.ListN.{length, length-append, get_or}
 use borrow.Author.Tests.{eqb-true, eqb-false, eq-eqb}
-use Rattle.model.specs.Numbers.{digit, if◌then◌else◌}
+use Rattle.model.specs.Numbers.{digit}
 use Rattle.model.specs.Layout.{piece_pages}
 use Rattle.model.specs.Entry.{Entry, encode, field_of, flat, invalid, perm, pieces, table}
 use Rattle.model.specs.Frame.{Frame, blocks, index_of, word_at}

@@ -1,4 +1,5 @@
 -- The finished form: it fits the permissions after the edit, and depends on them alone.
+use Rattle.std.specs.Prelude.{if◌then◌else◌}
 use mathlib.Core.Path.{◌≡◌, refl, sym, ap, ap₂, ◌∙◌, subst}
 use mathlib.Core.Bool.{Bool, true, false}
 use mathlib.Core.List.{List, [], ◌∷◌, ◌++◌}
@@ -8,7 +9,6 @@ use native.Mathlib.Omega.{arith}
 use lib.Dec.{eqb}
 use lib.ListN.{length, length-append}
 use borrow.Author.Tests.{eqb-true}
-use Rattle.model.specs.Numbers.{if◌then◌else◌}
 use Rattle.model.specs.Layout.{piece_pages}
 use Rattle.model.specs.Frame.{Frame, blocks, space}
 use Rattle.model.specs.Walk.{entry_at, piece_of, pn2}

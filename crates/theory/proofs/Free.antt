@@ -1,4 +1,5 @@
 -- The free pages: which they are, and how many.
+use Rattle.std.specs.Prelude.{if◌then◌else◌}
 use mathlib.Core.Path.{◌≡◌, sym, ap, ◌∙◌, subst}
 use mathlib.Core.Bool.{true, false, ◌&&◌, true≢false}
 use mathlib.Core.List.{List, [], ◌∷◌}
@@ -8,7 +9,7 @@ use native.Mathlib.Omega.{arith}
 use lib.Dec.{leb, ltb}
 use lib.ListN.{length}
 use borrow.Author.Tests.{ltb-true, ltb-false, leb-true}
-use Rattle.model.specs.Numbers.{if◌then◌else◌, member}
+use Rattle.model.specs.Numbers.{member}
 use Rattle.model.specs.Frame.{Frame, lent}
 use Rattle.model.specs.Sound.{free_of, free_pages, used}
 use Rattle.laws.proofs.Choices.{and_false, and_true, split}

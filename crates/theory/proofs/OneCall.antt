@@ -1,4 +1,5 @@
 -- One call: its stores, block by block. At every store the plan's step holds, and at the end every block is done.
+use Rattle.std.specs.Prelude.{if◌then◌else◌}
 use mathlib.Core.Path.{◌≡◌, refl, sym, ap, ◌∙◌, subst, subst₂}
 use mathlib.Core.Bool.{true, true≢false}
 use mathlib.Core.Logic.{◌≢◌, ◌⊎◌, inl, inr}
@@ -10,7 +11,6 @@ use lib.Dec.{eqb}
 use lib.ListN.{length, length-append, get_or}
 use lib.Seq.{get_or-append_seam}
 use borrow.Author.Tests.{eqb-true, eqb-false}
-use Rattle.model.specs.Numbers.{if◌then◌else◌}
 use Rattle.model.specs.Entry.{perm, table}
 use Rattle.model.specs.Frame.{blocks, lent, space, word_at}
 use Rattle.model.specs.Walk.{entry_at, l2_word, pn2, walk}

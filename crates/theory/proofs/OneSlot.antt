@@ -1,12 +1,12 @@
 -- One slot changes: what that does to all that is counted over the open slots' registers.
 -- The idea: what adds up over joined lists changes by the register that goes and the one that comes.
+use Rattle.std.specs.Prelude.{if◌then◌else◌}
 use mathlib.Core.Path.{◌≡◌, refl, ap, ◌∙◌}
 use mathlib.Core.Bool.{true, false}
 use mathlib.Core.List.{List, [], ◌∷◌, ◌++◌, map, map-append}
 use Prim.Native.Nat.{ℕ, zero, suc, ◌+◌, ◌<◌}
 use native.Mathlib.Omega.{arith}
 use lib.ListN.{length, get_or, set}
-use Rattle.model.specs.Numbers.{if◌then◌else◌}
 use Rattle.model.specs.Sound.{Slot, empty_slot, is_open, open_registers, register}
 use Rattle.laws.proofs.Choices.{split}
 use Rattle.laws.proofs.Sums.{Measure, total}

@@ -1,4 +1,5 @@
 -- The new pages of an edit: "At most two blocks can need one", and its stores depend on those pages of the free list alone.
+use Rattle.std.specs.Prelude.{if◌then◌else◌}
 use mathlib.Core.Path.{◌≡◌, refl, sym, ap, ap₂, ◌∙◌}
 use mathlib.Core.Bool.{true, false, true≢false, false≢true}
 use mathlib.Core.Logic.{◌≢◌}
@@ -9,7 +10,6 @@ use native.Mathlib.Omega.{arith}
 use lib.Dec.{eqb}
 use lib.ListN.{length, get_or}
 use borrow.Author.Tests.{eqb-true, eqb-false}
-use Rattle.model.specs.Numbers.{if◌then◌else◌}
 use Rattle.model.specs.Entry.{Entry, flat, invalid, pieces, table}
 use Rattle.model.specs.Frame.{Frame}
 use Rattle.model.specs.Walk.{entry_at}

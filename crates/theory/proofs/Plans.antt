@@ -1,4 +1,5 @@
 -- The plan of one call, and what a store of it, or many, keep.
+use Rattle.std.specs.Prelude.{if◌then◌else◌}
 use mathlib.Core.Path.{◌≡◌, refl, ap, ap₂, ◌∙◌}
 use mathlib.Core.Logic.{◌≢◌, ◌⊎◌, inl, inr}
 use mathlib.Core.List.{List, [], ◌∷◌, ◌++◌}
@@ -6,7 +7,7 @@ use Prim.Native.Nat.{ℕ, suc, ◌+◌, ◌^◌, ◌≤◌, ◌<◌}
 use native.Mathlib.Nat.{add-zero}
 use native.Mathlib.Omega.{arith}
 use lib.ListN.{length, get_or, length-append}
-use Rattle.model.specs.Numbers.{digit, if◌then◌else◌}
+use Rattle.model.specs.Numbers.{digit}
 use Rattle.model.specs.Entry.{Entry, perm}
 use Rattle.model.specs.Frame.{Frame, blocks, space}
 use Rattle.model.specs.Walk.{entry_at, piece_of, pn2, walk}

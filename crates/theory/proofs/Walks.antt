@@ -1,4 +1,5 @@
 -- What a walk reads: the same entries and the same L1 words give the same walk; and what the entries name, measured, when none or one of them changes.
+use Rattle.std.specs.Prelude.{if◌then◌else◌}
 use mathlib.Core.Path.{◌≡◌, refl, sym, ap, ◌∙◌, subst}
 use mathlib.Core.Bool.{true}
 use mathlib.Core.List.{List}
@@ -6,7 +7,6 @@ use Prim.Native.Nat.{ℕ, ◌+◌, ◌≤◌, ◌<◌}
 use native.Mathlib.Omega.{arith}
 use lib.ListN.{length}
 use borrow.Author.Tests.{le-ltb, lt-ltb}
-use Rattle.model.specs.Numbers.{if◌then◌else◌}
 use Rattle.model.specs.Entry.{Entry, clean, decode, faults, field_of, flat, invalid, pieces, table}
 use Rattle.model.specs.Frame.{Frame, blocks, lent, space, word_at}
 use Rattle.model.specs.Walk.{entry_at, entry_page, found, l2_word, pn0, pn1, pn2, walk}

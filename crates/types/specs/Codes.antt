@@ -1,6 +1,5 @@
 -- Numbers for what crosses to C: what is asked by code, and what is answered, each in one word of 64 bits.
-use Rattle.std.specs.Prelude.{ℕ, ◌+◌, ◌*◌, ◌%◌, ◌^◌, eqb}
-use Rattle.model.specs.Numbers.{if◌then◌else◌}
+use Rattle.std.specs.Prelude.{ℕ, ◌+◌, ◌*◌, ◌%◌, ◌^◌, eqb, if◌then◌else◌}
 use Rattle.model.specs.Access.{fetch, load, store, Kind, itself, table_read, update, Answer, refused, allowed, fault}
 use Rattle.model.specs.Lookup.{Privilege, machine, supervisor, user}
 use Rattle.model.specs.Fence.{Fence, no_fence, domain_fence, address_fence}

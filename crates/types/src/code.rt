@@ -1,6 +1,5 @@
 // Codes and words: what C asks and is answered.
-ghost use Rattle.model.specs.Numbers.{if◌then◌else◌};
-ghost use Rattle.std.specs.Prelude.{◌≡◌, ℕ, ◌≤◌, ◌<◌, ◌^◌};
+ghost use Rattle.std.specs.Prelude.{◌≡◌, ℕ, ◌≤◌, ◌<◌, ◌^◌, if◌then◌else◌};
 ghost use Rattle.model.specs.Access.{fault, cause_of, original_of};
 ghost use Rattle.types.specs.Views.{kind_of, answer_of, fence_of, reply_of, separation_of};
 ghost use Rattle.types.specs.Codes.{privilege_at, kind_at, permission_at, strength_at, privilege_code_of, kind_code_of, permission_code_of, strength_code_of, answer_word, fence_word, reply_word, separation_word};

@@ -1,6 +1,5 @@
 // New pages of blocks: which block takes one, and which page it is.
-ghost use Rattle.model.specs.Numbers.{if◌then◌else◌};
-ghost use Rattle.std.specs.Prelude.{◌≡◌, ◌+◌, ◌<◌, ◌^◌, drop};
+ghost use Rattle.std.specs.Prelude.{◌≡◌, ◌+◌, ◌<◌, ◌^◌, drop, if◌then◌else◌};
 ghost use mathlib.Core.List.{head_d};
 ghost use Rattle.model.specs.Stores.{needs_page};
 ghost use Rattle.types.specs.Views.{entry_of, form_of, free_list};

@@ -1,8 +1,8 @@
 -- `lookup::judge` meets its contract: the row of the permission that the walk grants decides, and the row of none serves no need.
+use Rattle.std.specs.Prelude.{if◌then◌else◌}
 use mathlib.Core.Path.{◌≡◌, refl, sym, ap, ap₂, ◌∙◌}
 use mathlib.Core.Bool.{false}
 use Prim.Native.Nat.{ℕ}
-use Rattle.model.specs.Numbers.{if◌then◌else◌}
 use Rattle.model.specs.Entry.{Found, perm, faults}
 use Rattle.model.specs.Access.{Kind, Need, read, write, execute, allowed, fault, need_of, original_of, cause_of, may_rows, column_of, may, judge}
 use Rattle.types.specs.Views as views

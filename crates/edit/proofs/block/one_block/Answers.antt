@@ -1,4 +1,5 @@
 -- `edit::block::one_block` meets its contract: the form, the page and the stores that the code takes are those of the block.
+use Rattle.std.specs.Prelude.{if◌then◌else◌}
 use mathlib.Core.Path.{◌≡◌, sym, ap, ap₂, ◌∙◌, subst}
 use mathlib.Core.Bool.{true}
 use mathlib.Core.List.{List}
@@ -14,7 +15,6 @@ use Rattle.shapes.specs.Blocks.{Encodes, form_in_gib, stores_in_gib, stores_over
 use Rattle.shapes.proofs.Order.{ahead_of}
 use Rattle.shapes.specs.Run.{run}
 use Rattle.model.specs.Entry.{Entry}
-use Rattle.model.specs.Numbers.{if◌then◌else◌}
 use Rattle.types.specs.Views.{entry_of, request_of, form_of, free_list}
 use Rattle.shapes.specs.Rooted.{Good}
 use Rattle.table.specs.Board.{board, frame_of}

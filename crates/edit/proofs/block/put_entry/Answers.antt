@@ -1,4 +1,5 @@
 -- `edit::block::put_entry` meets its contract: the word at the root's start and the block's number is the block's entry, so the store is the model's.
+use Rattle.std.specs.Prelude.{if◌then◌else◌}
 use mathlib.Core.Path.{◌≡◌, sym, ap, ◌∙◌}
 use mathlib.Core.List.{List, [], ◌∷◌}
 use Prim.Native.Nat.{◌+◌}
@@ -9,7 +10,6 @@ use Rattle.shapes.specs.Run.{run}
 use Rattle.shapes.proofs.Places.{place}
 use lib.Dec.{eqb}
 use lib.ListN.{get_or}
-use Rattle.model.specs.Numbers.{if◌then◌else◌}
 use Rattle.table.specs.Stored.{store_of}
 use Rattle.model.specs.Stores.{Store, if_changed_l2}
 use Rattle.table.specs.Board.{frame_of}

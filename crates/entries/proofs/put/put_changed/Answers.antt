@@ -1,10 +1,10 @@
 -- `entries::put::put_changed` meets its contract: a word that does not change has no store in the list.
+use Rattle.std.specs.Prelude.{if◌then◌else◌}
 use mathlib.Core.Path.{◌≡◌, sym, ap, ◌∙◌}
 use mathlib.Core.List.{List, [], ◌∷◌}
 use lib.Dec.{eqb}
 use lib.ListN.{get_or}
 use borrow.Author.Tests.{eq-eqb}
-use Rattle.model.specs.Numbers.{if◌then◌else◌}
 use Rattle.model.specs.Stores.{Store}
 use Rattle.table.specs.Stored.{store_of}
 use Rattle.shapes.specs.Run.{run}

@@ -1,11 +1,11 @@
 -- `forms::gibs::block_new_pages` meets its contract: a block inside the range takes no page.
+use Rattle.std.specs.Prelude.{if◌then◌else◌}
 use mathlib.Core.Path.{ap}
 use Rattle.table.specs.Board.{frame_of}
 use Rattle.forms.proofs.BoardShape.{board_shape}
 use Rattle.shapes.proofs.FormLaws.{form_inside}
 use Rattle.types.specs.Views.{request_of}
 use Rattle.model.specs.Forms.{Form}
-use Rattle.model.specs.Numbers.{if◌then◌else◌}
 use Rattle.model.specs.Stores.{needs_page}
 use Rattle.model.specs.Walk.{entry_at}
 use Rattle.forms.proofs.gibs.block_new_pages.Goals as goal
