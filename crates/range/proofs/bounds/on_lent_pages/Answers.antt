@@ -16,7 +16,7 @@ overflow_mul-first c = record { fits = omega (arith, lent_ends (frame_over c.arg
 
 pub returns-then-first-pages : goal.returns-then-first-pages
 unfolding meets_lent
-returns-then-first-pages c = rw (ne_eqb _ _ c.if-q-eq0.false, le-ltb _ _ c.if-first-pages.true)
+returns-then-first-pages c = rw (ne_eqb _ 0 c.if-q-eq0.false, le-ltb _ _ c.if-first-pages.true)
 
 pub overflow_mul-result : goal.overflow_mul-result
 overflow_mul-result c = record { fits = omega (arith, lent_ends (frame_over c.args.f c.args.n) (lit≤ tt) c.requires.0) }
@@ -27,4 +27,4 @@ overflow_add-result c =
 
 pub returns : goal.returns
 unfolding meets_lent
-returns c = rw (ne_eqb _ _ c.if-q-eq0.false, lt-ltb _ _ c.if-first-pages.false)
+returns c = rw (ne_eqb _ 0 c.if-q-eq0.false, lt-ltb _ _ c.if-first-pages.false)

@@ -2,6 +2,7 @@
 use mathlib.Core.Path.{◌≡◌, refl}
 use mathlib.Core.Bool.{Bool, true, false, not}
 use borrow.Author.Tests.{lt-ltb}
+use Rattle.model.specs.Layout.{slot_count}
 use Rattle.model.specs.Sound.{is_open}
 use Rattle.model.specs.Calls.{slot_at}
 use Rattle.slots.proofs.named.not_open.Goals as goal
@@ -12,4 +13,4 @@ not_not false = refl
 
 pub returns : goal.returns
 unfolding is_open slot_at
-returns c = rw (lt-ltb _ _ c.if-slot-ge-SLOTS.false) (not_not _)
+returns c = rw (lt-ltb _ slot_count c.if-slot-ge-SLOTS.false) (not_not _)
