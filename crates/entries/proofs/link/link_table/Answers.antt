@@ -58,6 +58,8 @@ cut k z = let x = progress_cut k.fill_page-first.result k.fill_page-first.new.wo
 then : (k : After-fill_page-first) → not k.fill_page-first.result.all ≡ false → On-at-After-fill_page-first k k.fill_page-first.result.left k.fill_page-first.new.words (link_at_after_fill_page_first k)
 then k z = remaining_next (first_at_after_fill_page_first k) _ _ refl (sym (progress_all k.fill_page-first.result k.fill_page-first.new.words z) ∙ made k)
 
+-- The page's entries come first in the list,
+-- and its first store is the next one of the edit.
 pub fill_page-first-requires : goal.fill_page-first-requires
 fill_page-first-requires c =
     let next : Ahead c.args.words.now (page (goal.at.fill_page-first-requires c).Start) = remaining_ahead (first (goal.at.fill_page-first-requires c).Start) _ _ refl in
