@@ -21,8 +21,8 @@ run: command
 	@echo; echo 'The same with a slip, `edit 5 0x80100000 0x1000 rw 1536`:'
 	@echo 'edit 5 0x80100000 0x1000 rw 1536' | cat examples/cradles.mpt - | $(mpt) apart || [ $$? -eq 3 ]
 
-# every crate is proved from nothing and its wrong versions are refused, each by a fact; wrong definitions are refused; the library's stores
-# are traced; the compiled monitor is held against the second program. What rt ci said last is said again at the end, if all else passed.
+# every crate is proved and its wrong versions are refused, each by a fact (what the same files passed before is kept); wrong definitions are
+# refused; the library's stores are traced; the compiled monitor is held against the second program. What rt ci said last is said again at the end, if all else passed.
 # The library is made over what rt ci has just proved, if no file was touched meanwhile
 test:
 	@tools/kit
