@@ -160,31 +160,41 @@ def function(text, start, after):
 
 
 def contracts(crate, path, text, kind):
-    """The functions of a file, and its types and constants."""
-    where, module = f"{crate} {path}", os.path.splitext(os.path.basename(path))[0]
+    """The functions of a file, and its types and constants; of an impl what it says and its functions."""
     text = "\n".join(code_lines(re.sub(r"/\*.*?\*/", "", text, flags=re.S), "//"))
     # what each crate's root has
     text = re.sub(r"^#!\[tactic\(auto\)\]$", "", text, flags=re.M)
     # a bracket in a string is none
     text = re.sub(r'"(\\.|[^"\\])*"', lambda string: string.group(0).translate(str.maketrans("([{}])", "❨❲❴❵❳❩")), text)
-    imported = origins(where, text)
-    begin = re.compile(r"\s*((?:#\[[^\]]*\]\s*)*(?:pub )?(?:(?:ghost )?use|mod|(?:const )?(?:extern \"C\" )?fn|const|static|type|struct|enum)\b)\s*(\w*)")
+    yield from items(crate, path, text, origins(f"{crate} {path}", text), "")
+
+
+def items(crate, path, text, imported, within):
+    """The items of a text; within names the impl that it is from."""
+    module = os.path.splitext(os.path.basename(path))[0]
+    begin = re.compile(r"\s*((?:#\[[^\]]*\]\s*)*(?:pub )?(?:(?:ghost )?use|mod|(?:const )?(?:extern \"C\" )?fn|const|static|type|struct|enum|ghost)\b)\s*(\w*)")
+    block = re.compile(r"\s*(impl\b[^{;]*)\{")
     at = 0
     while at < len(text.rstrip()):
-        match = begin.match(text, at)
+        match, opens = begin.match(text, at), block.match(text, at)
         try:
+            if opens:
+                at = closed(text, opens.end() - 1)
+                yield from items(crate, path, text[opens.end():at - 1], imported, one_line([opens[1]]))
+                continue
             if match[1].endswith("fn"):
                 parts, body, lines, at = function(text, match.start(1), closed(text, text.index("(", match.end())))
                 outward = lines if "extern" in match[1] or (crate, match[2]) in OUTWARD else 0
-                name = match[2] if module in ("lib", "main") else f"{module}::{match[2]}"
+                name = f"{within} {match[2]}" if within else match[2] if module in ("lib", "main") else f"{module}::{match[2]}"
                 yield Item(crate, path, name, tuple(parts), body, parts, used(imported, " ".join([*parts, body])), outward)
                 continue
             end = outside(text, [";", "{"] if match[1].endswith(("struct", "enum")) else [";"], match.end())
             end = closed(text, end) if text[end:end + 1] == "{" else end + 1
         except (TypeError, ValueError):
-            unread.append(f"{where}: {text[at:].strip().splitlines()[0]}")
+            unread.append(f"{crate} {path}: {text[at:].strip().splitlines()[0]}")
             return
         told = text[match.start(1):end]
         if not match[1].endswith(("use", "mod")):
-            yield Item(crate, path, match[2], one_line([told]), "", [line.strip() for line in told.split("\n")], used(imported, told), 0)
+            name = f"{within} {match[2]}" if within else match[2]
+            yield Item(crate, path, name, one_line([told]), "", [line.strip() for line in told.split("\n")], used(imported, told), 0)
         at = end

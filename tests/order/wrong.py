@@ -1,6 +1,7 @@
 """Wrong texts on which `run` tries itself: which reading must find it, where, and what stands there in the place of what."""
 STORE, PUT, ROWS, BLOCK, EDIT = "table/src/store.rt", "entries/src/put.rt", "entries/src/rows.rt", "edit/src/block.rt", "edit/src/lib.rt"
-ONCE, BEGIN = "let progress = store_range(edit, words, free, start);", "let mut rest = left;"
+ONCE, BEGIN = "let Some(rest) = store_range(edit, words, free, start) else {", "let mut rest = left;"
+LINK, ADMIT = "link_table(edit, words, NewPage { block, page: new }, left)", "let marks = admit(f, words, slots)?;"
 LATER = "pub fn fill("
 RANGE, ANSWER = "edit/proofs/store_range/Answers.antt", "\npub loop-b-init :"
 WRONG = [
@@ -22,16 +23,16 @@ WRONG = [
     ("assignments", ROWS, LATER, "fn sneak(words: &mut [Word], at: usize)\n    ghost ss: { List Store }\n    requires inside { at < length words.old }\n    ensures* { one }\n    ensures low { result ≡ at }\n{ words[at] = 0; }\n\n" + LATER),
     ("assignments", ROWS, LATER, "#[tactic(auto, using(crate::proofs::Rows::row))]\nfn sneak(words: &mut [Word], at: usize) { words[at] = 0; }\n\n" + LATER),
     ("assignments", "slots/src/lib.rt", "let mut after = slots;\n    after[slot", "let mut after = words;\n    after[slot"),
-    ("assignments", "sound/src/lib.rt", "*free = all_marks();", "let free = others; *free = all_marks();"),
-    ("assignments", "sound/src/lib.rt", "*free = all_marks();", "*free = all_marks(); *words = others;"),
+    ("assignments", "sound/src/lib.rt", "let mut free = all_marks();", "let mut free = all_marks(); free[0] = 0;"),
+    ("assignments", "sound/src/lib.rt", "let mut free = all_marks();", "let mut free = all_marks(); *words = others;"),
     ("assignments", "marks/src/lib.rt", "marks[at] = word - bit;", "let marks = words; marks[at] = word - bit;"),
     ("&mut", "marks/src/lib.rt", "take(marks: &mut Marks,", "take(marks: &mut [u64],"),
-    ("marks", "slots/src/lib.rt", "let mut marks = no_marks();", "let mut marks = no_marks(); admit(f, words, slots, &mut marks);"),
-    ("loops", "slots/src/lib.rt", "    let mut marks = no_marks();\n    match admit(f, words, slots, &mut marks) {\n        Admission::Refused(why) => refused(why, slots),\n        Admission::Granted => {", "    let mut marks = no_marks();\n    for i in 0..2usize { }\n    match admit(f, words, slots, &mut marks) {\n        Admission::Refused(why) => refused(why, slots),\n        Admission::Granted => {"),
-    ("marks", "slots/src/lib.rt", "    open_at(f,", "    let other = free_pages(f, words.len(), marks); open_at(f,"),
+    ("marks", "slots/src/lib.rt", ADMIT, "admit(f, words, slots)?; " + ADMIT),
+    ("loops", "slots/src/lib.rt", ADMIT, "for i in 0..2usize { } " + ADMIT),
+    ("marks", "slots/src/lib.rt", "    Ok(open_at(f,", "    let other = free_pages(f, words.len(), &marks); Ok(open_at(f,"),
     ("marks", "sound/src/pick.rt", "n: usize, free: &Marks", "words: &[Word], free: &Marks"),
     ("other names", "marks/src/lib.rt", "pub type Marks = [u64; 4];", "pub type Marks = [u64];"),
-    ("assignments", EDIT, ONCE, "let mut few = start; few.more = 100; let progress = store_range(edit, words, free, few);"),
+    ("assignments", EDIT, ONCE, "let mut few = start; few.more = 100; let Some(rest) = store_range(edit, words, free, few) else {"),
     ("&mut", ROWS, LATER, "fn sneak(w: &mut [Word], at: usize) { store_word(w, at, 0); }\n\n" + LATER),
     ("&mut", ROWS, LATER, "fn sneak<'a>(w: &'a mut [u64]) { }\n\n" + LATER),
     ("&mut", ROWS, LATER, "pub struct Held<'a> { to: &'a mut [Word] }\n\n" + LATER),
@@ -52,6 +53,7 @@ WRONG = [
     ("code from elsewhere", ROWS, BEGIN, BEGIN + " <[Word]>::swap(words, 0, 1);"),
     ("code from elsewhere", ROWS, BEGIN, BEGIN + " Vec::push(words, word);"),
     ("code from elsewhere", ROWS, "use table::word::decode;", "use table::word::decode;\nuse libc;"),
+    ("methods", EDIT, "left = step.left?;", "left = step.left.unwrap_or(limit);"),
     ("methods", ROWS, BEGIN, BEGIN + " words.swap(0, 1);"),
     ("methods", ROWS, BEGIN, BEGIN + " words\n        .fill (word);"),
     ("methods", ROWS, BEGIN, BEGIN + " for w in words.iter_mut() { }"),
@@ -63,19 +65,19 @@ WRONG = [
     ("calls", ROWS, BEGIN, BEGIN + " table::store::store_word (words, at, 0);"),
     ("calls", ROWS, BEGIN, BEGIN + " store_word // so\n        (words, at, 0);"),
     ("calls", ROWS, BEGIN, BEGIN + " rest = put_next(words, rest, at, word);"),
-    ("calls", PUT, "    let rest = put_next(words, left, at, word);", "    let last = put_next(words, left, at, word); let rest = put_next(words, last, at, word);"),
-    ("calls", BLOCK, "link_table(edit, words, page, left)", "link_table(edit, words, page, link_table(edit, words, page, left).left)"),
-    ("calls", BLOCK, "    if gib.one {", "    own_table(edit, words, gib.t, b, left); if gib.one {"),
+    ("calls", PUT, "    Some(put_next(words, left, at, word))", "    let last = put_next(words, left, at, word); Some(put_next(words, last, at, word))"),
+    ("calls", BLOCK, LINK, LINK[:-5] + LINK + "?)"),
+    ("calls", BLOCK, "    match gib {", "    own_table(edit, words, gib.t, b, left); match gib {"),
     ("calls", "forms/src/blocks.rt", "\n{\n", "\n{\n    entries::rows::fill(words, 0, 1, 0, left);\n"),
     ("calls", EDIT, ONCE, "store_range(edit, words, free, start); " + ONCE),
     ("calls", "monitor/src/lib.rt", "let made = make(", "make(edit, words, sdid, free, 1); let made = make("),
-    ("calls", "api/src/lib.rt", "let o = monitor::edit(", "monitor::edit(f, words, kept, slot, Address(start), size, p, 1); let o = monitor::edit("),
+    ("calls", "api/src/lib.rt", "let o = monitor::edit(", "monitor::edit(f, words, *slots, slot, Address(start), size, p, 1); let o = monitor::edit("),
     ("calls", "api_c/src/lib.rt", "    api::mpt_edit(", "    api::mpt_edit(paw, first, words, slots, slot, start, size, permission, 1);\n    api::mpt_edit("),
     ("calls", "api_c/src/lib.rt", "    api::mpt_edit(", "    mpt_edit("),
     ("loops", "api_c/src/lib.rt", "    api::mpt_open(", "    for i in 0..2u64 { }\n    api::mpt_open("),
     ("loops", EDIT, "let start = Budget {", "while limit < 9 { } let start = Budget {"),
     ("loops", "monitor/src/lib.rt", "let made = make(", "for i in 0..2u64 { } let made = make("),
-    ("limits", EDIT, ONCE, "let progress = store_range(edit, words, free, Budget{more: 100, last: 0});"),
+    ("limits", EDIT, ONCE, "let Some(rest) = store_range(edit, words, free, Budget{more: 100, last: 0}) else {"),
     ("limits", ROWS, LATER, "fn more() -> Budget { Budget { more: 9, last: 0 } }\n\n" + LATER),
     ("limits", EDIT, "let mut left = limit;", "let mut left = Budget { more: 100, last: 0 };"),
     ("stands =", RANGE, ANSWER, "\nput : Ahead m l\nput = record { edit = e; made = []; later = []; order = o; stands\n  = refl }\n" + ANSWER),
@@ -89,14 +91,14 @@ WRONG = [
     ("ahead_each", "shapes/proofs/Order.antt", "\npub ahead_first :", '\npub begun = said "{-" ahead_each "-}"\n\npub ahead_first :'),
     ("ahead_each", ROWS, LATER, "#[tactic(auto, using(shapes::proofs::Order::ahead_each))]\n" + LATER),
     ("ahead_each", ROWS, LATER, "ghost use Rattle.shapes.proofs.Order.{ahead_each as next};\n\n" + LATER),
-    ("facts", RANGE, "known c = facts", "known c = let t = facts F sh m in facts"),
+    ("facts", RANGE, "invariant_start (facts (", "invariant_start (facts (facts ("),
     ("facts", "edit/proofs/block/one_block/Answers.antt", "\nuse ", "\nuse Rattle.sequence.proofs.Facts as all\nput = all.facts\nuse "),
 ]
 # what changes nothing
 SAME = [
     (ROWS, BEGIN, "// words[0] = 0; store_word(words, 0, 0);\n    " + BEGIN + " /* words[0] = 0; */"),
     (STORE, "words[at] = word;", "words [ at ]\n        =word ; // one"),
-    (EDIT, ONCE, "let progress = store_range(\n        edit,words, free, start\n    );"),
+    (EDIT, ONCE, "let Some(rest) = store_range(\n        edit,words, free, start\n    ) else {"),
     (ROWS, LATER, "#[tactic(auto, using(crate::proofs::Rows::row))]\n" + LATER),
     (STORE, "\n{\n    words[at] = word;", "\n    ensures first { words[0] = 0 }\n    requires { unsafe words.swap }\n{\n    words[at] = word;"),
     (ROWS, "    rest\n}", "    if words[at] == word && n <= 2 {\n        return rest;\n    }\n    rest\n}"),

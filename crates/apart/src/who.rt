@@ -8,7 +8,7 @@ ghost use Rattle.model.specs.Frame.{bounds_ok};
 ghost use Rattle.model.specs.Layout.{slot_count};
 ghost use Rattle.sharing.specs.Crowds.{reach_of};
 ghost use Rattle.sharing.specs.Faults.{slot_grants, some, meet, table_faults, pair_faults};
-ghost use Rattle.sharing.specs.First.{First};
+ghost use Rattle.sharing.specs.First.{FirstOf};
 ghost use Rattle.table.specs.Board.{frame_of};
 ghost use Rattle.types.specs.Views.{permission_number, strength_of, separation_of};
 
@@ -38,12 +38,7 @@ fn writes(p: Permission) -> bool
 fn opens(p: Permission) -> bool
     ensures { result ≡ apart.grants_any (perm (permission_number p)) }
 {
-    match p {
-        Permission::None => false,
-        Permission::Rx => true,
-        Permission::Rw => true,
-        Permission::Rwx => true,
-    }
+    p != Permission::None
 }
 
 fn reaches(p: Permission, s: Strength) -> bool
@@ -62,23 +57,23 @@ fn meets(p: Permission, q: Permission, s: Strength) -> bool
     (opens(p) & reaches(q, s)) | (reaches(p, s) & opens(q))
 }
 
-// The first slot that reaches a page; 8 if none does.
+// The first slot that reaches a page, if one does.
 pub fn reached_by(
     f: Frame,
     words: &[Word],
     slots: [Word; 8],
     page: PageNumber,
     s: Strength,
-) -> usize
+) -> Option<usize>
     requires { bounds_ok (frame_of f words.now) ≡ true }
-    ensures { First (λ i. apart.by_slot (frame_of f words.now) words.now slots (apart.reaches (frame_of f words.now) words.now (strength_of s)) i page.0) 0 slot_count result }
+    ensures { FirstOf (λ i. apart.by_slot (frame_of f words.now) words.now slots (apart.reaches (frame_of f words.now) words.now (strength_of s)) i page.0) 0 slot_count result }
 {
-    for i in 0..8usize {
-        if reaches(has(f, words, slots[i], page), s) {
-            return i;
+    for (i, &r) in slots.iter().enumerate() {
+        if reaches(has(f, words, r, page), s) {
+            return Some(i);
         }
     }
-    8
+    None
 }
 
 // What is at fault with a table page, and the first slot with which it is.
@@ -90,16 +85,16 @@ pub fn table_fault(
     s: Strength,
 ) -> Separation
     requires { (bounds_ok (frame_of f words.now) ≡ true) × (apart.table_page (frame_of f words.now) words.now slots page.0 ≡ true) }
-    ensures { separation_of result ≡ head_d (table_faults (frame_of f words.now) words.now slots (strength_of s) page.0) apart.apart }
+    ensures { separation_of (Ok result) ≡ head_d (table_faults (frame_of f words.now) words.now slots (strength_of s) page.0) apart.apart }
 {
-    let i = reached_by(f, words, slots, page, s);
-    if i < 8 {
-        return Separation::TableOpen(page, i as u64, writes(has(f, words, slots[i], page)));
-    }
-    Separation::Apart
+    let Some(i) = reached_by(f, words, slots, page, s) else {
+        return Separation::Apart;
+    };
+    Separation::TableOpen(page, i as u64, writes(has(f, words, slots[i], page)))
 }
 
-// The first slot after slot i with which it shares a page, one of the two reaching it; 8 if there is none.
+// The first slot after slot i with which it shares a page, one of the two reaching it, if there is one. By number, as in `pair_fault`: slots are
+// told by their numbers, and each is asked beside another.
 fn partner(
     f: Frame,
     words: &[Word],
@@ -107,17 +102,17 @@ fn partner(
     page: PageNumber,
     i: usize,
     s: Strength,
-) -> usize
+) -> Option<usize>
     requires { (bounds_ok (frame_of f words.now) ≡ true) × (i < 8) }
-    ensures { First (λ j. some (apart.pair_fault (frame_of f words.now) words.now slots (strength_of s) page.0 i j)) 0 slot_count result }
+    ensures { FirstOf (λ j. some (apart.pair_fault (frame_of f words.now) words.now slots (strength_of s) page.0 i j)) 0 slot_count result }
 {
     let p = has(f, words, slots[i], page);
     for j in i + 1..8 {
         if meets(p, has(f, words, slots[j], page), s) {
-            return j;
+            return Some(j);
         }
     }
-    8
+    None
 }
 
 // What is at fault with a page that two slots share, and the first two with which it is.
@@ -129,11 +124,10 @@ pub fn pair_fault(
     s: Strength,
 ) -> Separation
     requires { bounds_ok (frame_of f words.now) ≡ true }
-    ensures { separation_of result ≡ head_d (pair_faults (frame_of f words.now) words.now slots (strength_of s) page.0) apart.apart }
+    ensures { separation_of (Ok result) ≡ head_d (pair_faults (frame_of f words.now) words.now slots (strength_of s) page.0) apart.apart }
 {
     for i in 0..8usize {
-        let j = partner(f, words, slots, page, i, s);
-        if j < 8 {
+        if let Some(j) = partner(f, words, slots, page, i, s) {
             let written = writes(has(f, words, slots[i], page))
                 | writes(has(f, words, slots[j], page));
             return Separation::PageShared(page, i as u64, j as u64, written);

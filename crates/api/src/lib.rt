@@ -9,26 +9,20 @@ ghost use Rattle.types.specs.Codes.{privilege_at, kind_at, permission_at, streng
 ghost use Rattle.api.specs.CallWords.{version, opened_word, done_word, lookup_word, sound_word, apart_word, edit_word, edit_memory};
 ghost use Rattle.table.specs.Board.{board_frame, PAGE-WORDS};
 
-use marks::no_marks;
 use monitor::Outcome;
 use table::board::{Word, wide};
-use types::code::{
-    answer_word, fault_word, kind_at, permission_at, privilege_at, reply_word, separation_word,
-    strength_at,
-};
-use types::number::of_refusal;
-use types::{
-    Address, Admission, Frame, KindCode, PageNumber, PermissionCode, PrivilegeCode, Sdid,
-    StrengthCode,
-};
+use types::code::{answer_word, fault_word, reply_word, separation_word};
+use types::{Address, Frame, Kind, PageNumber, Permission, Privilege, Sdid, Strength};
+
+// What is answered where a code names nothing.
+const NO_CODE: u64 = 255;
 
 // Slot s, and zero where there is none.
 fn slot_at(slots: [Word; 8], s: u64) -> Word
     ensures { result ≡ get_or slots s 0 }
 {
     if s < 8 {
-        let at = s as usize;
-        return slots[at];
+        return slots[s as usize];
     }
     0
 }
@@ -37,19 +31,14 @@ fn slot_at(slots: [Word; 8], s: u64) -> Word
 fn opened_word(o: Outcome, slot: u64) -> u64
     ensures { (m : List ℕ) → result ≡ opened_word (outcome_of o m) slot }
 {
-    let reply = o.reply;
-    let fence = o.fence;
-    let slots = o.slots;
-    reply_word(reply, fence, wide(slot_at(slots, slot)))
+    reply_word(o.reply, o.fence, wide(slot_at(o.slots, slot)))
 }
 
 // What a close or an edit answers, in one word. The slots are not looked at.
 fn done_word(o: Outcome) -> u64
     ensures { (m : List ℕ) → result ≡ done_word (outcome_of o m) }
 {
-    let reply = o.reply;
-    let fence = o.fence;
-    reply_word(reply, fence, 0)
+    reply_word(o.reply, o.fence, 0)
 }
 
 // The version of this interface, as `mpt.h` numbers it: 65,536 times the major number, and the minor one.
@@ -73,19 +62,17 @@ pub extern "C" fn mpt_lookup(
     ensures { result ≡ lookup_word (board_frame paw first (length words.now / PAGE-WORDS)) words.now mmpt (privilege_at privilege) (kind_at kind) address }
 {
     let f = Frame {
-        paw: paw,
+        paw,
         first: PageNumber(first),
     };
-    match privilege_at(privilege) {
-        PrivilegeCode::Known(p) => match kind_at(kind) {
-            KindCode::Known(k) => {
-                let no = fault_word(k);
-                answer_word(monitor::lookup(f, words, mmpt, p, k, Address(address)), no)
-            }
-            KindCode::Unknown => 255,
-        },
-        PrivilegeCode::Unknown => 255,
-    }
+    let Ok(p) = Privilege::try_from(privilege) else {
+        return NO_CODE;
+    };
+    let Ok(k) = Kind::try_from(kind) else {
+        return NO_CODE;
+    };
+    let no = fault_word(k);
+    answer_word(monitor::lookup(f, words, mmpt, p, k, Address(address)), no)
 }
 
 #[unsafe(no_mangle)]
@@ -93,14 +80,12 @@ pub extern "C" fn mpt_sound(paw: u64, first: u64, words: &[Word], slots: &[Word;
     ensures { result ≡ sound_word (board_frame paw first (length words.now / PAGE-WORDS)) words.now slots.now }
 {
     let f = Frame {
-        paw: paw,
+        paw,
         first: PageNumber(first),
     };
-    let kept = *slots;
-    let mut marks = no_marks();
-    match sound::admit(f, words, kept, &mut marks) {
-        Admission::Refused(why) => of_refusal(why),
-        Admission::Granted => 0,
+    match sound::admit(f, words, *slots) {
+        Ok(_) => 0,
+        Err(why) => u64::from(why),
     }
 }
 
@@ -115,14 +100,13 @@ pub extern "C" fn mpt_apart(
     ensures { result ≡ apart_word (board_frame paw first (length words.now / PAGE-WORDS)) words.now slots.now (strength_at strength) }
 {
     let f = Frame {
-        paw: paw,
+        paw,
         first: PageNumber(first),
     };
-    let kept = *slots;
-    match strength_at(strength) {
-        StrengthCode::Known(s) => separation_word(monitor::apart(f, words, kept, s)),
-        StrengthCode::Unknown => 255,
-    }
+    let Ok(s) = Strength::try_from(strength) else {
+        return NO_CODE;
+    };
+    separation_word(monitor::apart(f, words, *slots, s))
 }
 
 #[unsafe(no_mangle)]
@@ -138,12 +122,10 @@ pub extern "C" fn mpt_open(
         × (words.new ≡ (open_slot (board_frame paw first (length words.old / PAGE-WORDS)) words.old slots.now slot sdid).memory) }
 {
     let f = Frame {
-        paw: paw,
+        paw,
         first: PageNumber(first),
     };
-    let kept = *slots;
-    let o = monitor::open(f, words, kept, slot, Sdid(sdid));
-    opened_word(o, slot)
+    opened_word(monitor::open(f, words, *slots, slot, Sdid(sdid)), slot)
 }
 
 #[unsafe(no_mangle)]
@@ -157,12 +139,10 @@ pub extern "C" fn mpt_close(
     ensures { result ≡ done_word (close_slot (board_frame paw first (length words.now / PAGE-WORDS)) words.now slots.now slot) }
 {
     let f = Frame {
-        paw: paw,
+        paw,
         first: PageNumber(first),
     };
-    let kept = *slots;
-    let o = monitor::close(f, words, kept, slot);
-    done_word(o)
+    done_word(monitor::close(f, words, *slots, slot))
 }
 
 #[unsafe(no_mangle)]
@@ -181,15 +161,12 @@ pub extern "C" fn mpt_edit(
         × (words.new ≡ edit_memory (board_frame paw first (length words.old / PAGE-WORDS)) words.old slots.now slot start size (permission_at permission) limit) }
 {
     let f = Frame {
-        paw: paw,
+        paw,
         first: PageNumber(first),
     };
-    let kept = *slots;
-    match permission_at(permission) {
-        PermissionCode::Known(p) => {
-            let o = monitor::edit(f, words, kept, slot, Address(start), size, p, limit);
-            done_word(o)
-        }
-        PermissionCode::Unknown => 255,
-    }
+    let Ok(p) = Permission::try_from(permission) else {
+        return NO_CODE;
+    };
+    let o = monitor::edit(f, words, *slots, slot, Address(start), size, p, limit);
+    done_word(o)
 }

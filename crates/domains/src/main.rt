@@ -2,12 +2,11 @@
 // pages from page 0x80000, so that eight roots fill it. Each line is one call, or how many words of a page are not zero.
 #![tactic(auto)]
 
-ghost use Rattle.std.specs.Prelude.{◌≤◌, ◌<◌};
+ghost use Rattle.std.specs.Prelude.{◌<◌};
 
 use monitor::{Outcome, Reply};
 use std::io;
-use types::number::{of_cause, of_refusal};
-use types::{Access, Address, Answer, Fence, Frame, Kind, PageNumber, Privilege, Sdid};
+use types::{Access, Address, Answer, Fence, Frame, Kind, PageNumber, Privilege, Refusal, Sdid};
 
 fn frame() -> Frame {
     Frame {
@@ -16,12 +15,13 @@ fn frame() -> Frame {
     }
 }
 
-fn say_reply(rt: &impl Print, reply: Reply) -> io::Result<()> {
+// A reply and a fence in this program's own words; `edits` tells more of a reply, and the address of a fence in base 16.
+fn say_reply(rt: &impl Print, reply: Result<Reply, Refusal>) -> io::Result<()> {
     match reply {
-        Reply::Refused(why) => print!(rt; ": refused {}", of_refusal(why)),
-        Reply::Opened => print!(rt; ": opened"),
-        Reply::Closed => print!(rt; ": closed"),
-        Reply::Edited(_, _) => print!(rt; ": edited"),
+        Ok(Reply::Opened) => print!(rt; ": opened"),
+        Ok(Reply::Closed) => print!(rt; ": closed"),
+        Ok(Reply::Edited(_, _)) => print!(rt; ": edited"),
+        Err(why) => print!(rt; ": {why}"),
     }
 }
 
@@ -35,21 +35,14 @@ fn say_fence(rt: &impl Print, fence: Fence) -> io::Result<()> {
 
 // A slot above 7 shows as register 0.
 fn register_of(slots: [u64; 8], slot: u64) -> u64 {
-    if slot < 8 {
-        let at = slot as usize;
-        return slots[at];
-    }
-    0
+    slots.get(slot as usize).copied().unwrap_or(0)
 }
 
 // The answer, the slot's register afterwards, and the fence.
 fn say(rt: &impl Print, outcome: Outcome, slot: u64) -> io::Result<()> {
-    let reply = outcome.reply;
-    let slots = outcome.slots;
-    let fence = outcome.fence;
-    say_reply(rt, reply)?;
-    print!(rt; ", register 0x{:x}", register_of(slots, slot))?;
-    say_fence(rt, fence)
+    say_reply(rt, outcome.reply)?;
+    print!(rt; ", register 0x{:x}", register_of(outcome.slots, slot))?;
+    say_fence(rt, outcome.fence)
 }
 
 fn open_in(
@@ -97,39 +90,21 @@ fn close(rt: &impl Print, words: &[u64; 4096], slots: [u64; 8], slot: u64) -> io
 fn load(rt: &impl Print, words: &[u64; 4096], slots: [u64; 8], a: u64) -> io::Result<()> {
     print!(rt; "load 0x{a:x}: ")?;
     let kind = Kind::Itself(Access::Load);
-    let register = slots[0];
-    match monitor::lookup(frame(), words, register, Privilege::User, kind, Address(a)) {
-        Answer::Allowed => println!(rt; "allowed"),
-        Answer::Fault(cause) => println!(rt; "fault {}", of_cause(cause)),
-        Answer::Refused(why) => println!(rt; "refused {}", of_refusal(why)),
+    match monitor::lookup(frame(), words, slots[0], Privilege::User, kind, Address(a)) {
+        Ok(answer) => println!(rt; "{answer}"),
+        Err(why) => println!(rt; "{why}"),
     }
 }
 
-fn one_if_set(word: u64) -> u64
-    ensures { result ≤ 1 }
-{
-    if word != 0 {
-        return 1;
-    }
-    0
-}
-
-// How many of the 512 words from at are not zero.
-fn set_words(words: &[u64; 4096], at: usize) -> u64
-    requires { at < 3585 }
-{
-    let mut set: u64 = 0;
-    for i in 0..512usize {
-        set += one_if_set(words[at + i]);
-    }
-    set
-}
-
-// The same of lent page n, from 0.
+// How many of the 512 words of lent page n, from 0, are not zero.
 fn count(rt: &impl Print, words: &[u64; 4096], n: u64) -> io::Result<()>
     requires { n < 8 }
 {
-    let set = set_words(words, n as usize * 512);
+    let first = n as usize * 512;
+    let set = words[first..first + 512]
+        .iter()
+        .filter(|word| **word != 0)
+        .count();
     println!(rt; "page {n}: {set} words not zero")
 }
 

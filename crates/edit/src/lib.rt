@@ -6,6 +6,7 @@ mod block;
 ghost use Rattle.std.specs.Prelude.{◌≡◌, true};
 ghost use Rattle.sequence.specs.StoresMade.{fence_after, StoresMadeIs};
 ghost use Rattle.sequence.specs.Prepared.{Prepared, whole_list};
+ghost use Rattle.shapes.specs.Blocks.{has_one, one_of};
 ghost use Rattle.shapes.specs.Run.{out, run};
 ghost use Rattle.model.specs.Fence.{in_root};
 ghost use Rattle.model.specs.Frame.{lent, bounds_ok};
@@ -17,37 +18,28 @@ use forms::gibs::gib_at;
 use table::board::Word;
 use table::lent::{block_count, page_at};
 use types::pages::{GIB_BLOCKS, GIB_BYTES, PAGE_BYTES};
-use types::{Budget, Edit, Fence, Frame, Free, Gib, PageNumber, Progress, Sdid, StoresMade};
+use types::{Budget, Edit, Fence, Frame, Free, PageNumber, Sdid, StoresMade};
 
-// The stores of an edit that no refusal fits, in order, up to the limit. free: the free pages, lowest first.
-fn store_range(edit: Edit, words: &mut [Word], free: Free, limit: Budget) -> Progress
+// The stores of an edit that no refusal fits, in order, up to the limit. free: the free pages, lowest first. Some blocks go by at once,
+// as many as `next_blocks` takes, so that the steps of the loop are of many lengths.
+fn store_range(edit: Edit, words: &mut [Word], free: Free, limit: Budget) -> Option<Budget>
     requires { Prepared (frame_of edit.f words.old) words.old (request_of edit.q) edit.root.0 (free_list free) }
-    ensures { out result.all result.left words.new
+    ensures { out result words.new
         ≡ run limit (whole_list (frame_of edit.f words.old) words.old (request_of edit.q) edit.root.0 (free_list free)) words.old }
 {
     let end = ((edit.q.start.0 + edit.q.size - 1) / GIB_BYTES + 1) * GIB_BLOCKS;
     let mut b = edit.q.start.0 / GIB_BYTES * GIB_BLOCKS;
-    let mut gib = Gib { one: false, p: 0 };
+    let mut gib = None;
     let mut next: u64 = 0;
     let mut left = limit;
     while b < end {
         gib = gib_at(edit, words, b, gib);
         let step = next_blocks(edit, words, gib, b, free, next, left);
-        if !step.all {
-            return Progress {
-                all: false,
-                left: left,
-            };
-        }
-        let rest = step.left;
-        left = rest;
+        left = step.left?;
         next = step.next;
         b += step.count;
     }
-    Progress {
-        all: true,
-        left: left,
-    }
+    Some(left)
 }
 
 // Word at is an entry of the root.
@@ -62,10 +54,10 @@ fn in_root(f: Frame, words: &[Word], root: PageNumber, at: usize) -> bool
     at < start + block_count(f, words.len())
 }
 
-// The fence after count stores, the last to word at, that were all or were cut.
-fn fence_after(edit: Edit, words: &[Word], sdid: Sdid, count: u64, all: bool, at: usize) -> Fence
+// The fence after count stores. last: the word of the last one, if all were made.
+fn fence_after(edit: Edit, words: &[Word], sdid: Sdid, count: u64, last: Option<usize>) -> Fence
     requires { (lent (frame_of edit.f words.now) edit.root.0 ≡ true) × (bounds_ok (frame_of edit.f words.now) ≡ true) }
-    ensures { fence_of result ≡ fence_after (frame_of edit.f words.now) (request_of edit.q) edit.root.0 sdid.0 count all at }
+    ensures { fence_of result ≡ fence_after (frame_of edit.f words.now) (request_of edit.q) edit.root.0 sdid.0 count (has_one last) (one_of last) }
 {
     if count == 0 {
         return Fence::Nothing;
@@ -76,9 +68,9 @@ fn fence_after(edit: Edit, words: &[Word], sdid: Sdid, count: u64, all: bool, at
     if count != 1 {
         return Fence::Domain(sdid);
     }
-    if !all {
+    let Some(at) = last else {
         return Fence::Domain(sdid);
-    }
+    };
     if in_root(edit.f, words, edit.root, at) {
         return Fence::Domain(sdid);
     }
@@ -96,22 +88,19 @@ pub fn make(edit: Edit, words: &mut [Word], sdid: Sdid, free: Free, limit: u64) 
         more: limit,
         last: 0,
     };
-    let progress = store_range(edit, words, free, start);
-    let rest = progress.left;
-    let all = progress.all;
-    if all {
-        let count = limit - rest.more;
-        let fence = fence_after(edit, words, sdid, count, true, rest.last);
+    let Some(rest) = store_range(edit, words, free, start) else {
+        let fence = fence_after(edit, words, sdid, limit, None);
         return StoresMade {
-            count: count,
-            all: true,
-            fence: fence,
+            count: limit,
+            all: false,
+            fence,
         };
-    }
-    let fence = fence_after(edit, words, sdid, limit, false, 0);
+    };
+    let count = limit - rest.more;
+    let fence = fence_after(edit, words, sdid, count, Some(rest.last));
     StoresMade {
-        count: limit,
-        all: false,
-        fence: fence,
+        count,
+        all: true,
+        fence,
     }
 }

@@ -1,40 +1,35 @@
 // The calls on the frame of the bench cases, PAW 32 from page 0x80000, and a look at the entries. Each writes one line.
-ghost use Rattle.std.specs.Prelude.{◌≤◌, ◌<◌};
+ghost use Rattle.std.specs.Prelude.{◌<◌};
 
 use crate::say;
+use monitor::Outcome;
 use std::io;
 use types::{Access, Address, Frame, Kind, PageNumber, Permission, Privilege, Sdid};
 
 pub fn frame(paw: u64) -> Frame {
     Frame {
-        paw: paw,
+        paw,
         first: PageNumber(0x80000),
     }
+}
+
+// What an open or a close of slot 0 answers, with its register afterwards. The slots are those of the next call.
+fn tell_slot(rt: &impl Print, outcome: Outcome) -> io::Result<[u64; 8]> {
+    say::reply(rt, outcome.reply)?;
+    print!(rt; ", register 0x{:x}", outcome.slots[0])?;
+    say::fence(rt, outcome.fence)?;
+    Ok(outcome.slots)
 }
 
 // Slot 0 opened, where all slots are empty.
 pub fn open(rt: &impl Print, words: &mut [u64], sdid: u64) -> io::Result<[u64; 8]> {
     print!(rt; "open 0 with SDID {sdid}")?;
-    let outcome = monitor::open(frame(32), words, [0; 8], 0, Sdid(sdid));
-    let reply = outcome.reply;
-    let slots = outcome.slots;
-    let fence = outcome.fence;
-    say::reply(rt, reply)?;
-    print!(rt; ", register 0x{:x}", slots[0])?;
-    say::fence(rt, fence)?;
-    Ok(slots)
+    tell_slot(rt, monitor::open(frame(32), words, [0; 8], 0, Sdid(sdid)))
 }
 
 pub fn close(rt: &impl Print, words: &[u64], slots: [u64; 8]) -> io::Result<[u64; 8]> {
     print!(rt; "close 0")?;
-    let outcome = monitor::close(frame(32), words, slots, 0);
-    let reply = outcome.reply;
-    let after = outcome.slots;
-    let fence = outcome.fence;
-    say::reply(rt, reply)?;
-    print!(rt; ", register 0x{:x}", after[0])?;
-    say::fence(rt, fence)?;
-    Ok(after)
+    tell_slot(rt, monitor::close(frame(32), words, slots, 0))
 }
 
 // Any edit. The slots that it leaves are those of the next call.
@@ -49,14 +44,10 @@ pub fn edit_in(
     length: u64,
     limit: u64,
 ) -> io::Result<[u64; 8]> {
-    print!(rt; "edit {slot}, ")?;
-    say::permission(rt, p)?;
-    print!(rt; " at 0x{start:x}, length 0x{length:x}, limit {limit}")?;
+    print!(rt; "edit {slot}, {p} at 0x{start:x}, length 0x{length:x}, limit {limit}")?;
     let outcome = monitor::edit(f, words, slots, slot, Address(start), length, p, limit);
-    let reply = outcome.reply;
-    let fence = outcome.fence;
-    say::reply(rt, reply)?;
-    say::fence(rt, fence)?;
+    say::reply(rt, outcome.reply)?;
+    say::fence(rt, outcome.fence)?;
     Ok(outcome.slots)
 }
 
@@ -93,11 +84,10 @@ pub fn ask(
     a: u64,
 ) -> io::Result<()> {
     print!(rt; "{what} 0x{a:x}")?;
-    let register = slots[0];
     let answer = monitor::lookup(
         frame(32),
         words,
-        register,
+        slots[0],
         Privilege::Supervisor,
         kind,
         Address(a),
@@ -111,10 +101,7 @@ pub fn load(rt: &impl Print, words: &[u64], slots: [u64; 8], a: u64) -> io::Resu
 
 // A word of the lent memory.
 fn word_at(words: &[u64], at: usize) -> u64 {
-    if at < words.len() {
-        return words[at];
-    }
-    0
+    words.get(at).copied().unwrap_or(0)
 }
 
 // L2 entry b of the root, which is the first lent page.
@@ -132,27 +119,6 @@ pub fn l1(rt: &impl Print, words: &[u64], n: u64, i: u64) -> io::Result<()>
     println!(rt; "page 0x{page:x} L1 entry {i}: 0x{word:016x}")
 }
 
-fn one_if(same: bool) -> u64
-    ensures { result ≤ 1 }
-{
-    if same {
-        return 1;
-    }
-    0
-}
-
-// How many of the n words from at are want.
-fn count(words: &[u64], at: usize, n: usize, want: u64) -> u64
-    requires first { at < 8192 }
-    requires number { n < 8192 }
-{
-    let mut same: u64 = 0;
-    for i in 0..n {
-        same += one_if(word_at(words, at + i) == want);
-    }
-    same
-}
-
 // How many of the n words from at are want, as a line.
 pub fn tell(
     rt: &impl Print,
@@ -161,10 +127,12 @@ pub fn tell(
     at: usize,
     n: usize,
     want: u64,
-) -> io::Result<()>
-    requires first { at < 8192 }
-    requires number { n < 8192 }
-{
-    let same = count(words, at, n, want);
+) -> io::Result<()> {
+    let same = words
+        .iter()
+        .skip(at)
+        .take(n)
+        .filter(|word| **word == want)
+        .count();
     println!(rt; "{what}: {same} of 0x{want:016x}")
 }

@@ -1,6 +1,6 @@
-// Document 01's bench cases C to K, each on a new domain of slot 0 with SDID 5, and edits of our own: limits, fences, a range over two
-// GiBs, no rwx in slot 1, refusals. The memory is 16 pages from page 0x80000, full of ones before the first call; case K has two pages. Each line is one
-// call, or entries as they stand.
+// Document 01's bench cases C to K, each on a new domain of slot 0 with SDID 5, and edits of our own: limits, fences, a range over two GiBs, no rwx
+// in slot 1, refusals. The memory is 16 pages from page 0x80000, full of ones before the first call; case K has two pages. Each line is one call, or
+// entries as they stand.
 #![tactic(auto)]
 
 mod bench;

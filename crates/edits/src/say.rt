@@ -1,17 +1,7 @@
-// What the program writes: numbers, and what a call answers.
+// What the program writes of what a call answers.
 use monitor::Reply;
 use std::io;
-use types::number::{of_cause, of_refusal};
-use types::{Answer, Fence, Permission};
-
-pub fn permission(rt: &impl Print, p: Permission) -> io::Result<()> {
-    match p {
-        Permission::None => print!(rt; "none"),
-        Permission::Rx => print!(rt; "rx"),
-        Permission::Rw => print!(rt; "rw"),
-        Permission::Rwx => print!(rt; "rwx"),
-    }
-}
+use types::{Answer, Fence, Refusal};
 
 fn stores(rt: &impl Print, count: u64, all: bool) -> io::Result<()> {
     print!(rt; ": {count} ")?;
@@ -27,12 +17,12 @@ fn stores(rt: &impl Print, count: u64, all: bool) -> io::Result<()> {
     }
 }
 
-pub fn reply(rt: &impl Print, r: Reply) -> io::Result<()> {
+pub fn reply(rt: &impl Print, r: Result<Reply, Refusal>) -> io::Result<()> {
     match r {
-        Reply::Refused(why) => print!(rt; ": refused {}", of_refusal(why)),
-        Reply::Opened => print!(rt; ": opened"),
-        Reply::Closed => print!(rt; ": closed"),
-        Reply::Edited(count, all) => stores(rt, count, all),
+        Ok(Reply::Opened) => print!(rt; ": opened"),
+        Ok(Reply::Closed) => print!(rt; ": closed"),
+        Ok(Reply::Edited(count, all)) => stores(rt, count, all),
+        Err(why) => print!(rt; ": {why}"),
     }
 }
 
@@ -47,10 +37,9 @@ pub fn fence(rt: &impl Print, f: Fence) -> io::Result<()> {
     }
 }
 
-pub fn answer(rt: &impl Print, a: Answer) -> io::Result<()> {
+pub fn answer(rt: &impl Print, a: Result<Answer, Refusal>) -> io::Result<()> {
     match a {
-        Answer::Allowed => println!(rt; ": allowed"),
-        Answer::Fault(cause) => println!(rt; ": fault {}", of_cause(cause)),
-        Answer::Refused(why) => println!(rt; ": refused {}", of_refusal(why)),
+        Ok(answer) => println!(rt; ": {answer}"),
+        Err(why) => println!(rt; ": {why}"),
     }
 }

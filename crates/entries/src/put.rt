@@ -7,7 +7,7 @@ ghost use Rattle.model.specs.Stores.{Store};
 
 use table::board::Word;
 use table::store::store_word;
-use types::{Budget, Progress};
+use types::Budget;
 
 // One store, where one more may be made: the next of an edit's list. Every store of an edit is made here.
 pub fn put_next(words: &mut [Word], left: Budget, at: usize, word: Word) -> Budget
@@ -25,37 +25,27 @@ pub fn put_next(words: &mut [Word], left: Budget, at: usize, word: Word) -> Budg
 }
 
 // One store, if one more may be made.
-pub fn put(words: &mut [Word], left: Budget, at: usize, word: Word) -> Progress
+pub fn put(words: &mut [Word], left: Budget, at: usize, word: Word) -> Option<Budget>
     requires { let ss = store_of at word ∷ [] in
         (at < length words.old) × Ahead words.old ss }
     ensures { let ss = store_of at word ∷ [] in
-        out result.all result.left words.new ≡ run left ss words.old }
+        out result words.new ≡ run left ss words.old }
 {
     if left.more == 0 {
-        return Progress {
-            all: false,
-            left: left,
-        };
+        return None;
     }
-    let rest = put_next(words, left, at, word);
-    Progress {
-        all: true,
-        left: rest,
-    }
+    Some(put_next(words, left, at, word))
 }
 
 // A store, if it changes the word.
-pub fn put_changed(words: &mut [Word], left: Budget, at: usize, word: Word) -> Progress
+pub fn put_changed(words: &mut [Word], left: Budget, at: usize, word: Word) -> Option<Budget>
     requires { let ss = if eqb (get_or words.old at 0) word then [] else store_of at word ∷ [] in
         (at < length words.old) × Ahead words.old ss }
     ensures { let ss = if eqb (get_or words.old at 0) word then [] else store_of at word ∷ [] in
-        out result.all result.left words.new ≡ run left ss words.old }
+        out result words.new ≡ run left ss words.old }
 {
     if words[at] == word {
-        return Progress {
-            all: true,
-            left: left,
-        };
+        return Some(left);
     }
     put(words, left, at, word)
 }

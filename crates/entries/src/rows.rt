@@ -1,5 +1,6 @@
-// Rows: neighbouring entries of a root, each stored if it changes.
-ghost use Rattle.std.specs.Prelude.{◌≡◌, List, ℕ, ◌+◌, ◌≤◌, ◌<◌, length, get_or};
+// Rows: neighbouring entries of a root, each stored if it changes. The loops that store go by number, and not over the slice: every store of an edit
+// is made by `put_next`, which is handed all the words and a place.
+ghost use Rattle.std.specs.Prelude.{◌≡◌, List, ℕ, ◌+◌, ◌≤◌, ◌<◌, length, get_or, MatchOption};
 ghost use Rattle.model.specs.Layout.{gib_blocks};
 ghost use Rattle.model.specs.Numbers.{every};
 ghost use Rattle.model.specs.Stores.{Store};
@@ -12,7 +13,7 @@ use crate::put::{put_changed, put_next};
 use table::board::{EACH_PIECE, PIECE_ENTRY, Word, narrow};
 use table::word::decode;
 use types::pages::GIB_BLOCKS;
-use types::{Budget, Entry, Progress, RowProgress};
+use types::{Budget, Entry, RowProgress};
 
 // The n words from at, where as many stores may be made: nothing is asked between them.
 pub fn fill(words: &mut [Word], at: usize, n: usize, word: Word, left: Budget) -> Budget
@@ -34,40 +35,38 @@ fn all_differ(words: &[Word], at: usize, word: Word) -> bool
     ensures { result ≡ every (differs words.now word) gib_blocks at }
 {
     let mut differ = true;
-    for i in 0..GIB_BLOCKS as usize {
-        differ = differ & (words[at + i] != word);
+    for &old in &words[at..at + GIB_BLOCKS as usize] {
+        differ = differ & (old != word);
     }
     differ
 }
 
 // The n words from at are all to be this word.
-fn flat_row(words: &mut [Word], at: usize, n: usize, word: Word, left: Budget) -> Progress
+fn flat_row(words: &mut [Word], at: usize, n: usize, word: Word, left: Budget) -> Option<Budget>
     requires { let ss = row_stores words.old (λ w. word) n at in
         (at + n ≤ length words.old) × Ahead words.old ss }
     ensures { let ss = row_stores words.old (λ w. word) n at in
-        out result.all result.left words.new ≡ run left ss words.old }
+        out result words.new ≡ run left ss words.old }
 {
     let mut more = left;
     for i in 0..n {
-        let progress = put_changed(words, more, at + i, word);
-        if !progress.all {
-            return progress;
-        }
-        let rest = progress.left;
-        more = rest;
+        more = put_changed(words, more, at + i, word)?;
     }
-    Progress {
-        all: true,
-        left: more,
-    }
+    Some(more)
 }
 
 // The same. The entries of a GiB, where all change and the limit allows for them, are filled.
-pub fn flat_entries(words: &mut [Word], at: usize, n: usize, word: Word, left: Budget) -> Progress
+pub fn flat_entries(
+    words: &mut [Word],
+    at: usize,
+    n: usize,
+    word: Word,
+    left: Budget,
+) -> Option<Budget>
     requires { let ss = row_stores words.old (λ w. word) n at in
         (at + n ≤ length words.old) × Ahead words.old ss }
     ensures { let ss = row_stores words.old (λ w. word) n at in
-        out result.all result.left words.new ≡ run left ss words.old }
+        out result words.new ≡ run left ss words.old }
 {
     if n != GIB_BLOCKS as usize {
         return flat_row(words, at, n, word, left);
@@ -78,22 +77,17 @@ pub fn flat_entries(words: &mut [Word], at: usize, n: usize, word: Word, left: B
     if !all_differ(words, at, word) {
         return flat_row(words, at, n, word, left);
     }
-    let rest = fill(words, at, GIB_BLOCKS as usize, word, left);
-    Progress {
-        left: rest,
-        all: true,
-    }
+    Some(fill(words, at, GIB_BLOCKS as usize, word, left))
 }
 
-// The entry by pieces that says the same as an entry without an L1 page; zero for any other.
-fn word_as_pieces(word: Word) -> Word
-    ensures { result ≡ word_as_pieces board word }
+// The entry by pieces that says the same as an entry; none for one with an L1 page or an invalid one, where the contract's `word_as_pieces` is zero.
+fn word_as_pieces(word: Word) -> Option<Word>
+    ensures { MatchOption result (word_as_pieces board word ≡ 0) (λ w. (w ≡ word_as_pieces board word) × (w ≡ 0 → ⊥)) }
 {
     match decode(word) {
-        Entry::Flat(p) => narrow(PIECE_ENTRY + p * EACH_PIECE),
-        Entry::Pieces(info) => narrow(PIECE_ENTRY + info),
-        Entry::Table(_) => 0,
-        Entry::Invalid => 0,
+        Entry::Flat(p) => Some(narrow(PIECE_ENTRY + p * EACH_PIECE)),
+        Entry::Pieces(info) => Some(narrow(PIECE_ENTRY + info)),
+        Entry::Table(_) | Entry::Invalid => None,
     }
 }
 
@@ -101,32 +95,26 @@ fn word_as_pieces(word: Word) -> Word
 pub fn pieces_row(words: &mut [Word], at: usize, n: usize, left: Budget) -> RowProgress
     requires { (at + n ≤ length words.old) × PiecesAhead board words.old n at }
     ensures { (result.count ≤ n) × ((k : ℕ) → at ≤ k → k < at + result.count → word_as_pieces board (get_or words.old k 0) ≡ 0 → ⊥)
-        × (out result.all result.left words.new ≡ run left (row_stores words.old (word_as_pieces board) result.count at) words.old) }
+        × (out result.left words.new ≡ run left (row_stores words.old (word_as_pieces board) result.count at) words.old) }
 {
     let mut more = left;
     for i in 0..n {
-        let word = word_as_pieces(words[at + i]);
-        if word == 0 {
+        let Some(word) = word_as_pieces(words[at + i]) else {
             return RowProgress {
-                all: true,
-                left: more,
+                left: Some(more),
                 count: i,
             };
-        }
-        let progress = put_changed(words, more, at + i, word);
-        let rest = progress.left;
-        if !progress.all {
+        };
+        let Some(rest) = put_changed(words, more, at + i, word) else {
             return RowProgress {
-                all: false,
-                left: rest,
+                left: None,
                 count: i + 1,
             };
-        }
+        };
         more = rest;
     }
     RowProgress {
-        all: true,
-        left: more,
+        left: Some(more),
         count: n,
     }
 }

@@ -1,107 +1,86 @@
 // The finished form of one block.
 ghost use Rattle.model.specs.Layout.{block_pages};
-ghost use Rattle.std.specs.Prelude.{◌≡◌, false, ◌+◌, ◌*◌, ◌<◌};
-ghost use Rattle.types.specs.Range.{Fair, Lies};
-ghost use Rattle.table.specs.Board.{MAX-BLOCKS, PIECES, PIECE-PAGES, frame_of};
-ghost use Rattle.model.specs.Forms.{form_in, after_in, all_are};
+ghost use Rattle.std.specs.Prelude.{◌≡◌, false, ◌*◌};
+ghost use Rattle.types.specs.Range.{Lies};
+ghost use Rattle.table.specs.Board.{frame_of};
+ghost use Rattle.model.specs.Forms.{form_in};
 ghost use Rattle.types.specs.Views.{entry_of, request_of, form_of};
+ghost use Rattle.shapes.specs.Blocks.{has_one, one_of};
 ghost use Rattle.shapes.specs.Rooted.{Good};
 
+use crate::block::Block;
 use crate::even::even_form;
 use crate::pieces::piece_at;
-use table::board::{EACH_PIECE, LAST_PIECE, PIECE_BYTES, PIECES, Word};
+use table::board::{EACH_PIECE, PIECE_BYTES, PIECES, Word};
 use types::pages::{BLOCK_PAGES, lies};
 use types::{Edit, Entry, Form, Place};
 
-// The finished form of block b in a GiB that is not of one permission.
-fn pieces_form(edit: Edit, words: &[Word], e: Entry, b: u64) -> Form
-    requires { (b < MAX-BLOCKS) × Fair edit.q × Good (frame_of edit.f words.now) words.now (entry_of e) }
-    ensures { form_of result ≡ form_in (frame_of edit.f words.now) words.now (request_of edit.q) false 0 (entry_of e) b }
+// The finished form of a block in a GiB that is not of one permission.
+fn pieces_form(edit: Edit, words: &[Word], block: Block) -> Form
+    requires { Good (frame_of edit.f words.now) words.now (entry_of block.e) }
+    ensures { form_of result ≡ form_in (frame_of edit.f words.now) words.now (request_of edit.q) false 0 (entry_of block.e) block.b }
 {
     let mut info: u64 = 0;
-    for j in 0..PIECES {
-        let piece = piece_at(edit, words, e, b, LAST_PIECE - j);
-        if !piece.one {
+    for i in (0..PIECES).rev() {
+        let Some(p) = piece_at(edit, words, block, i) else {
             return Form::Table;
-        }
-        info = piece.p + 4 * info;
+        };
+        info = p + 4 * info;
     }
     Form::Pieces(info)
 }
 
-// Piece i of block b is of one permission, once the edit is whole.
-fn piece_is_one(edit: Edit, words: &[Word], e: Entry, b: u64, i: u64) -> bool
-    requires { (b < MAX-BLOCKS) × (i < PIECES) × Fair edit.q × Good (frame_of edit.f words.now) words.now (entry_of e) }
-    ensures { result ≡ all_are (frame_of edit.f words.now) words.now (request_of edit.q) (entry_of e)
-        (after_in (frame_of edit.f words.now) words.now (request_of edit.q) (entry_of e) (b * block_pages + i * PIECE-PAGES)) PIECE-PAGES (b * block_pages + i * PIECE-PAGES) }
+// The same for a block that has an L1 page, across an end of the range. The pieces at the ends of the range come first: if one is mixed, the others
+// are not read.
+fn cut_form(edit: Edit, words: &[Word], block: Block) -> Form
+    requires { Good (frame_of edit.f words.now) words.now (entry_of block.e) }
+    ensures { form_of result ≡ form_in (frame_of edit.f words.now) words.now (request_of edit.q) false 0 (entry_of block.e) block.b }
 {
-    let piece = piece_at(edit, words, e, b, i);
-    piece.one
-}
-
-// The same for a block that has an L1 page, across an end of the range. The pieces at the ends of the range come first: if one is mixed, the others are not read.
-fn cut_form(edit: Edit, words: &[Word], e: Entry, b: u64) -> Form
-    requires { (b < MAX-BLOCKS) × Fair edit.q × Good (frame_of edit.f words.now) words.now (entry_of e) }
-    ensures { form_of result ≡ form_in (frame_of edit.f words.now) words.now (request_of edit.q) false 0 (entry_of e) b }
-{
-    if !piece_is_one(edit, words, e, b, edit.q.start.0 / PIECE_BYTES % PIECES) {
+    let first = edit.q.start.0 / PIECE_BYTES % PIECES;
+    let past = (edit.q.start.0 + edit.q.size) / PIECE_BYTES % PIECES;
+    if piece_at(edit, words, block, first).is_none()
+        || piece_at(edit, words, block, past).is_none()
+    {
         return Form::Table;
     }
-    if !piece_is_one(
-        edit,
-        words,
-        e,
-        b,
-        (edit.q.start.0 + edit.q.size) / PIECE_BYTES % PIECES,
-    ) {
-        return Form::Table;
-    }
-    pieces_form(edit, words, e, b)
+    pieces_form(edit, words, block)
 }
 
 // The same for a block across an end of the range.
-fn across_form(edit: Edit, words: &[Word], e: Entry, b: u64) -> Form
-    requires { (b < MAX-BLOCKS) × Fair edit.q × Good (frame_of edit.f words.now) words.now (entry_of e) }
-    ensures { form_of result ≡ form_in (frame_of edit.f words.now) words.now (request_of edit.q) false 0 (entry_of e) b }
+fn across_form(edit: Edit, words: &[Word], block: Block) -> Form
+    requires { Good (frame_of edit.f words.now) words.now (entry_of block.e) }
+    ensures { form_of result ≡ form_in (frame_of edit.f words.now) words.now (request_of edit.q) false 0 (entry_of block.e) block.b }
 {
-    match e {
-        Entry::Flat(p) => even_form(edit, words, e, b, p * EACH_PIECE),
-        Entry::Pieces(info) => even_form(edit, words, e, b, info),
-        Entry::Table(_) => cut_form(edit, words, e, b),
-        Entry::Invalid => cut_form(edit, words, e, b),
+    match block.e {
+        Entry::Flat(p) => even_form(edit, words, block, p * EACH_PIECE),
+        Entry::Pieces(info) => even_form(edit, words, block, info),
+        Entry::Table(_) | Entry::Invalid => cut_form(edit, words, block),
     }
 }
 
 // The same for a block outside the range.
-fn outside_form(edit: Edit, words: &[Word], e: Entry, b: u64) -> Form
-    requires { (b < MAX-BLOCKS) × Fair edit.q × Good (frame_of edit.f words.now) words.now (entry_of e) × Lies (request_of edit.q) (b * block_pages) block_pages Place.Outside }
-    ensures { form_of result ≡ form_in (frame_of edit.f words.now) words.now (request_of edit.q) false 0 (entry_of e) b }
+fn outside_form(edit: Edit, words: &[Word], block: Block) -> Form
+    requires { Good (frame_of edit.f words.now) words.now (entry_of block.e) × Lies (request_of edit.q) (block.b * block_pages) block_pages Place.Outside }
+    ensures { form_of result ≡ form_in (frame_of edit.f words.now) words.now (request_of edit.q) false 0 (entry_of block.e) block.b }
 {
-    match e {
-        Entry::Flat(p) => {
-            let info = p * EACH_PIECE;
-            Form::Pieces(info)
-        }
+    match block.e {
+        Entry::Flat(p) => Form::Pieces(p * EACH_PIECE),
         Entry::Pieces(info) => Form::Pieces(info),
-        Entry::Table(_) => pieces_form(edit, words, e, b),
-        Entry::Invalid => pieces_form(edit, words, e, b),
+        Entry::Table(_) | Entry::Invalid => pieces_form(edit, words, block),
     }
 }
 
-// The finished form of block b in a GiB that is or is not of one permission, p.
-pub fn block_form(edit: Edit, words: &[Word], one: bool, p: u64, e: Entry, b: u64) -> Form
-    requires { (b < MAX-BLOCKS) × Fair edit.q × Good (frame_of edit.f words.now) words.now (entry_of e) }
-    ensures { form_of result ≡ form_in (frame_of edit.f words.now) words.now (request_of edit.q) one p (entry_of e) b }
+// The finished form of a block, in a GiB whose one permission is given if it has one.
+pub fn block_form(edit: Edit, words: &[Word], gib: Option<u64>, block: Block) -> Form
+    requires { Good (frame_of edit.f words.now) words.now (entry_of block.e) }
+    ensures { form_of result ≡ form_in (frame_of edit.f words.now) words.now (request_of edit.q) (has_one gib) (one_of gib) (entry_of block.e) block.b }
 {
-    if one {
+    if let Some(p) = gib {
         return Form::Flat(p);
     }
-    match lies(edit.q, b * BLOCK_PAGES, BLOCK_PAGES) {
-        Place::Inside => {
-            let info = edit.q.permission * EACH_PIECE;
-            Form::Pieces(info)
-        }
-        Place::Outside => outside_form(edit, words, e, b),
-        Place::Across => across_form(edit, words, e, b),
+    match lies(edit, block.b * BLOCK_PAGES, BLOCK_PAGES) {
+        Place::Inside => Form::Pieces(edit.q.permission * EACH_PIECE),
+        Place::Outside => outside_form(edit, words, block),
+        Place::Across => across_form(edit, words, block),
     }
 }

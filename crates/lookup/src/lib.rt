@@ -14,8 +14,8 @@ ghost use Rattle.table.specs.Bounds.{Small};
 use table::board::Word;
 use table::{lent, place, register, root, word};
 use types::{
-    Address, Answer, Cause, Entry, Found, Frame, Kind, Need, PageNumber, Permission, Privilege,
-    Refusal, pages, rights,
+    Address, Answer, Cause, Entry, Frame, Kind, Need, PageNumber, Permission, Privilege, Refusal,
+    pages, rights,
 };
 
 // The first stage: L2 entry b of a root, decoded once. It says nothing where the root page is not lent.
@@ -30,33 +30,33 @@ fn l2_entry(f: Frame, words: &[Word], root: PageNumber, b: u64) -> Entry
 }
 
 // The field of an L1 page that speaks for a page: the entry by pn[1], its field by pn[0].
-fn in_table(f: Frame, words: &[Word], table: PageNumber, number: PageNumber) -> Found
+fn in_table(f: Frame, words: &[Word], table: PageNumber, number: PageNumber) -> Option<Permission>
     ensures { found_of result ≡ walk.found (frame_of f words.now) words.now (entry_of (Entry.Table table)) number.0 }
 {
     if lent::is_lent(f, words.len(), table) {
         let at = lent::page_at(f, words, table) + place::pn1(number) as usize;
         return word::field_found(words[at], place::pn0(number));
     }
-    Found::Fault
+    None
 }
 
 // The second stage: what an L2 entry finds for a page of its block.
-fn found(f: Frame, words: &[Word], e: Entry, number: PageNumber) -> Found
+fn found(f: Frame, words: &[Word], e: Entry, number: PageNumber) -> Option<Permission>
     requires { Small (entry_of e) }
     ensures { found_of result ≡ walk.found (frame_of f words.now) words.now (entry_of e) number.0 }
 {
     match e {
-        Entry::Flat(p) => Found::Grant(rights::permission_of(p)),
+        Entry::Flat(p) => Some(rights::permission_of(p)),
         Entry::Pieces(info) => {
-            Found::Grant(rights::permission_of(word::piece(info, place::piece_of(number))))
+            Some(rights::permission_of(word::piece(info, place::piece_of(number))))
         }
         Entry::Table(table) => in_table(f, words, table, number),
-        Entry::Invalid => Found::Fault,
+        Entry::Invalid => None,
     }
 }
 
 // "An address of 2^PAW or more faults."
-pub fn walk(f: Frame, words: &[Word], root: PageNumber, number: PageNumber) -> Found
+pub fn walk(f: Frame, words: &[Word], root: PageNumber, number: PageNumber) -> Option<Permission>
     requires { bounds_ok (frame_of f words.now) ≡ true }
     ensures { found_of result ≡ walk.walk (frame_of f words.now) words.now root.0 number.0 }
 {
@@ -68,23 +68,24 @@ pub fn walk(f: Frame, words: &[Word], root: PageNumber, number: PageNumber) -> F
             number,
         );
     }
-    Found::Fault
+    None
 }
 
-// What the walk finds, as a permission: a walk that faults serves no access, and neither does none.
-pub fn granted(found: Found) -> Permission
+// What the walk finds, as a permission: a walk that faults serves no access, and neither does none. No `unwrap_or`: by it a lookup missed its goal, at
+// 1.02 to 1.04 times what the plain program takes, where it takes 0.99 so.
+pub fn granted(found: Option<Permission>) -> Permission
     ensures { permission_number result ≡ granted_of (found_of found) }
 {
     match found {
-        Found::Grant(p) => p,
-        Found::Fault => Permission::None,
+        Some(p) => p,
+        None => Permission::None,
     }
 }
 
 // What an access is answered that has this need, and whose fault has this cause.
-fn judge(found: Found, need: Need, cause: Cause) -> Answer
+fn judge(found: Option<Permission>, need: Need, cause: Cause) -> Answer
     ensures { (k : access.Kind) → need_view need ≡ access.need_of k → cause_number cause ≡ access.cause_of (access.original_of k)
-        → answer_of result ≡ access.judge (found_of found) k }
+        → answer_of (Ok result) ≡ access.judge (found_of found) k }
 {
     if rights::may(granted(found), need) {
         return Answer::Allowed;
@@ -101,26 +102,23 @@ pub fn lookup(
     privilege: Privilege,
     kind: Kind,
     a: Address,
-) -> Answer
+) -> Result<Answer, Refusal>
     ensures { answer_of result ≡ lookup.lookup (frame_of f words.now) words.now register (privilege_of privilege) a.0 (kind_of kind) }
 {
     let need = rights::need_of(kind);
     let cause = rights::cause_of(kind);
     if !lent::frame_ok(f, words) {
-        return Answer::Refused(Refusal::Frame);
+        return Err(Refusal::Frame);
     }
     if !register::register_ok(register) {
-        return Answer::Refused(Refusal::Register);
+        return Err(Refusal::Register);
     }
-    if rights::is_machine(privilege) {
-        return Answer::Allowed;
+    if privilege == Privilege::Machine {
+        return Ok(Answer::Allowed);
     }
     if register::is_bare(register) {
-        return Answer::Allowed;
+        return Ok(Answer::Allowed);
     }
-    judge(
-        walk(f, words, register::ppn(register), pages::page_of(a)),
-        need,
-        cause,
-    )
+    let found = walk(f, words, register::ppn(register), pages::page_of(a));
+    Ok(judge(found, need, cause))
 }

@@ -4,19 +4,16 @@
 
 use lookup::lookup;
 use std::io;
-use types::number::{of_cause, of_refusal};
-use types::{Access, Address, Answer, Frame, Kind, PageNumber, Privilege};
+use types::{Access, Address, Answer, Frame, Kind, PageNumber, Privilege, Refusal};
 
 // Slot 0 opened with SDID 5 at page 0x80000.
 const REGISTER: u64 = 0x1140_0000_0008_0000;
 
 // One line: what was asked, the address and the answer.
-fn say(rt: &impl Print, what: &str, a: u64, answer: Answer) -> io::Result<()> {
-    print!(rt; "{what} 0x{a:x}: ")?;
+fn say(rt: &impl Print, what: &str, a: u64, answer: Result<Answer, Refusal>) -> io::Result<()> {
     match answer {
-        Answer::Allowed => println!(rt; "allowed"),
-        Answer::Fault(cause) => println!(rt; "fault {}", of_cause(cause)),
-        Answer::Refused(why) => println!(rt; "refused {}", of_refusal(why)),
+        Ok(answer) => println!(rt; "{what} 0x{a:x}: {answer}"),
+        Err(why) => println!(rt; "{what} 0x{a:x}: {why}"),
     }
 }
 
@@ -47,32 +44,28 @@ fn in_domain(rt: &impl Print, what: &str, words: &[u64], kind: Kind, a: u64) -> 
     ask(rt, what, words, REGISTER, Privilege::Supervisor, kind, a)
 }
 
-fn load(rt: &impl Print, words: &[u64], a: u64) -> io::Result<()> {
-    in_domain(rt, "load", words, Kind::Itself(Access::Load), a)
-}
-
-fn store(rt: &impl Print, words: &[u64], a: u64) -> io::Result<()> {
-    in_domain(rt, "store", words, Kind::Itself(Access::Store), a)
-}
-
-fn fetch(rt: &impl Print, words: &[u64], a: u64) -> io::Result<()> {
-    in_domain(rt, "fetch", words, Kind::Itself(Access::Fetch), a)
+// The same of an access itself.
+fn itself(rt: &impl Print, words: &[u64], access: Access, a: u64) -> io::Result<()> {
+    let what = match access {
+        Access::Fetch => "fetch",
+        Access::Load => "load",
+        Access::Store => "store",
+    };
+    in_domain(rt, what, words, Kind::Itself(access), a)
 }
 
 // Case C: entry 32 names the L1 page 0x80001, whose first field is rw, and entries 33 to 63 are TYPE 6.
 fn case_c(words: &mut [u64; 1024]) {
     words[32] = 0x0000_4000_0008_0001;
-    for b in 33..64usize {
-        words[b] = 0x0000_6000_0000_0000;
-    }
+    words[33..64].fill(0x0000_6000_0000_0000);
     words[512] = 0x2;
 }
 
 // Case E, and the same page for the other kinds.
 fn case_e(rt: &impl Print, words: &[u64; 1024]) -> io::Result<()> {
-    load(rt, words, 0x4000_0000)?;
-    store(rt, words, 0x4000_0FFF)?;
-    fetch(rt, words, 0x4000_0FFF)?;
+    itself(rt, words, Access::Load, 0x4000_0000)?;
+    itself(rt, words, Access::Store, 0x4000_0FFF)?;
+    itself(rt, words, Access::Fetch, 0x4000_0FFF)?;
     in_domain(
         rt,
         "page-table read for a store",
@@ -108,7 +101,7 @@ fn case_e(rt: &impl Print, words: &[u64; 1024]) -> io::Result<()> {
         Kind::Update(Access::Load),
         0x4000_0000,
     )?;
-    load(rt, words, 0x4200_0000)
+    itself(rt, words, Access::Load, 0x4200_0000)
 }
 
 // Registers, on the memory of case C.
@@ -214,22 +207,22 @@ fn fields(rt: &impl Print, words: &mut [u64; 1024]) -> io::Result<()> {
     words[513] = 0x2;
     words[514] = 0x6000_0000_0000_0000;
     words[515] = 0x2000_0000_0000_0004;
-    load(rt, words, 0x4000_0000)?;
-    load(rt, words, 0x4000_F000)?;
-    load(rt, words, 0x4001_0000)?;
-    load(rt, words, 0x4002_F000)?;
-    store(rt, words, 0x4003_F000)?;
+    itself(rt, words, Access::Load, 0x4000_0000)?;
+    itself(rt, words, Access::Load, 0x4000_F000)?;
+    itself(rt, words, Access::Load, 0x4001_0000)?;
+    itself(rt, words, Access::Load, 0x4002_F000)?;
+    itself(rt, words, Access::Store, 0x4003_F000)?;
     words[512 + 18] = 0x1000;
-    fetch(rt, words, 0x4012_3456)?;
-    store(rt, words, 0x4012_3456)?;
-    fetch(rt, words, 0x4012_2FFF)?;
-    fetch(rt, words, 0x4013_3000)
+    itself(rt, words, Access::Fetch, 0x4012_3456)?;
+    itself(rt, words, Access::Store, 0x4012_3456)?;
+    itself(rt, words, Access::Fetch, 0x4012_2FFF)?;
+    itself(rt, words, Access::Fetch, 0x4013_3000)
 }
 
 // L2 entry 32 as given, and one load.
 fn with_entry(rt: &impl Print, words: &mut [u64; 1024], entry: u64, a: u64) -> io::Result<()> {
     words[32] = entry;
-    load(rt, words, a)
+    itself(rt, words, Access::Load, a)
 }
 
 // The rules of L2 entries.
@@ -253,8 +246,8 @@ fn entries(rt: &impl Print, words: &mut [u64; 1024]) -> io::Result<()> {
 fn main(rt: HostRuntime) -> io::Result<()> {
     let mut words = [0u64; 1024];
     // case A, and the last sentence of case I
-    load(&rt, &words, 0x4000_0000)?;
-    load(&rt, &words, 0x1_0000_0000)?;
+    itself(&rt, &words, Access::Load, 0x4000_0000)?;
+    itself(&rt, &words, Access::Load, 0x1_0000_0000)?;
     case_c(&mut words);
     case_e(&rt, &words)?;
     registers(&rt, &words)?;

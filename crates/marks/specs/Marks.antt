@@ -1,5 +1,5 @@
 -- Marks as bits of words, the lowest first.
-use Rattle.std.specs.Prelude.{◌≡◌, Bool, true, false, List, ℕ, ◌-◌, ◌/◌, ◌%◌, ◌≤◌, ◌<◌, ◌^◌, eqb, get_or, set, replicate, if◌then◌else◌}
+use Rattle.std.specs.Prelude.{◌≡◌, Bool, true, false, List, ℕ, ◌-◌, ◌/◌, ◌%◌, ◌≤◌, ◌<◌, ◌^◌, Option, eqb, get_or, set, replicate, if◌then◌else◌, Some, None}
 use Rattle.model.specs.Numbers.{digit}
 
 abbrev pub Marks : Type 0
@@ -23,10 +23,7 @@ mark_at marks i = eqb (digit 2 (get_or marks (i / WORD-MARKS) 0) (i % WORD-MARKS
 unfoldable pub unmark : Marks → ℕ → Marks
 unmark marks i = if mark_at marks i then set marks (i / WORD-MARKS) (get_or marks (i / WORD-MARKS) 0 - 2 ^ (i % WORD-MARKS)) else marks
 
--- none of them, and all of them
-abbrev pub no_marks : Marks
-no_marks = replicate WORDS 0
-
+-- all of them
 abbrev pub all_marks : Marks
 all_marks = replicate WORDS (2 ^ WORD-MARKS - 1)
 
@@ -41,3 +38,8 @@ pub record Lowest (marks : Marks) (r : ℕ) : Type 0 where
   pub within : r ≤ MARKS
   pub is_marked : r < MARKS → mark_at marks r ≡ true
   pub below : (k : ℕ) → k < r → mark_at marks k ≡ false
+
+-- r is the lowest mark that stands, if one does
+abbrev pub LowestMark : Marks → Option ℕ → Type 0
+LowestMark marks (Some r) = (r < MARKS) × Lowest marks r
+LowestMark marks None = Lowest marks MARKS

@@ -2,7 +2,7 @@
 #![tactic(auto)]
 
 ghost use Rattle.std.specs.Prelude.{◌≡◌, ◌<◌};
-ghost use Rattle.marks.specs.Marks.{MARKS, mark_at, unmark, no_marks, all_marks, LowestBit, Lowest};
+ghost use Rattle.marks.specs.Marks.{MARKS, mark_at, unmark, all_marks, LowestBit, LowestMark};
 
 use types::bits::pow2;
 
@@ -12,13 +12,6 @@ pub type Marks = [u64; 4];
 const WORDS: usize = 4;
 
 const WORD_MARKS: usize = 64;
-
-// None of them stands: what a call lends to the check, which then makes the marks.
-pub fn no_marks() -> Marks
-    ensures { result ≡ no_marks }
-{
-    [0; WORDS]
-}
 
 // All of them stand.
 pub fn all_marks() -> Marks
@@ -59,15 +52,14 @@ pub fn lowest_bit(word: u64) -> usize
     u64::trailing_zeros(word) as usize
 }
 
-// The lowest mark that stands; 256 if none does.
-pub fn lowest(marks: &Marks) -> usize
-    ensures { Lowest marks.now result }
+// The lowest mark that stands, if one does.
+pub fn lowest(marks: &Marks) -> Option<usize>
+    ensures { LowestMark marks.now result }
 {
-    for i in 0..WORDS {
-        let word = marks[i];
+    for (i, &word) in marks.iter().enumerate() {
         if word != 0 {
-            return WORD_MARKS * i + lowest_bit(word);
+            return Some(WORD_MARKS * i + lowest_bit(word));
         }
     }
-    WORD_MARKS * WORDS
+    None
 }

@@ -1,7 +1,7 @@
 -- Document 01 as definitions, with what document 02 changes of it, in the order in which a reader wants them. A quote is document 01's unless
 -- another is named. Nothing here is code, and nothing is proved here: this is what the promises mean.
 --
---   Numbers    plain helpers: a choice, runs of numbers, lists as sets, digits
+--   Numbers    plain helpers: runs of numbers, lists as sets, digits
 --   Layout     what differs between the boards: widths and counts
 --   Register   mmpt: its fields, and which registers a lookup refuses
 --   Entry      L2 and L1 entries: what a word says, and the word that says it

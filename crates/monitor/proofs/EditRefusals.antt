@@ -1,4 +1,5 @@
 -- What an edit leaves, by the tests in their order: each law assumes that the tests before it were passed.
+use Rattle.std.specs.Prelude.{Some, Ok}
 use mathlib.Core.Path.{◌≡◌, refl}
 use mathlib.Core.Bool.{Bool, true, false, not, ◌&&◌}
 use mathlib.Core.List.{List}
@@ -17,7 +18,6 @@ use Rattle.sequence.specs.StoresMade.{StoresMadeIs}
 use Rattle.shapes.specs.Slots.{not_open}
 use Rattle.slots.specs.Outcomes.{outcome_of}
 use Rattle.types.specs.declared.Reply.TheVariants.{Edited}
-use Rattle.types.specs.declared.Admission.TheVariants as admission
 use Rattle.types.specs.declared.Refusal.{Refusal}
 use Rattle.types.specs.Views.{refusal_number}
 use Rattle.marks.specs.Marks.{Marks}
@@ -31,7 +31,7 @@ module _ (F : Frame) (m : List ℕ) (slots : List Slot) (q : Request) where
   no_room = ltb (length (free_pages F m (roots F slots))) (new_pages F m (root_of F slots q) (first_gib q * gib_blocks) (forms F m q (root_of F slots q)))
 
   module _ (limit : ℕ) where
-    pub edit_not_admitted : (r : Refusal) → admission.Refused r ≡ admission_of F m slots → edit_slot F m slots q limit ≡ refuse F m slots (refusal_number r)
+    pub edit_not_admitted : (r : Refusal) → admission_of F m slots ≡ Some r → edit_slot F m slots q limit ≡ refuse F m slots (refusal_number r)
     unfolding edit_slot edit_with edit_refusal_with
     edit_not_admitted r h = not_admitted F m slots r _ _ _ h refl
 
@@ -45,7 +45,7 @@ module _ (F : Frame) (m : List ℕ) (slots : List Slot) (q : Request) where
 
     -- an answer that says what was made is the model's
     pub made_is : (list : List Store) (m' : List ℕ) (r : StoresMade) → StoresMadeIs F q (root_of F slots q) (sdid_of F.layout (register_for slots q)) list limit m m' r
-        → outcome_of (record { reply = Edited r.count r.all; slots = slots; fence = r.fence }) m' ≡ made F m slots q list limit
+        → outcome_of (record { reply = Ok (Edited r.count r.all); slots = slots; fence = r.fence }) m' ≡ made F m slots q list limit
     unfolding made
     made_is list m' r k = λ i. record { reply = edited (k.count i) (k.all i); memory = k.memory i; slots = slots; fence = k.fence i }
 

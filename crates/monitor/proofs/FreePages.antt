@@ -1,6 +1,6 @@
 -- The two lowest free pages stand for all of them: in the list that an edit takes from, and in whether there are enough.
-use mathlib.Core.Path.{◌≡◌, refl, sym, ◌∙◌}
-use mathlib.Core.List.{List, [], ◌∷◌, head_d}
+use mathlib.Core.Path.{◌≡◌, refl, sym, ap, ◌∙◌}
+use mathlib.Core.List.{List, [], ◌∷◌}
 use Prim.Native.Nat.{ℕ, ◌≤◌, min}
 use native.Mathlib.Omega.{arith}
 use lib.Dec.{ltb}
@@ -12,15 +12,14 @@ use Rattle.scan.specs.FreeMarks.{listed}
 
 -- the front of their list
 pub listed_front : (pages : List ℕ) → free_list (listed pages) ≡ take 2 pages
-unfolding head_d
 listed_front [] = refl
 listed_front (x ∷ []) = refl
 listed_front (x ∷ y ∷ rest) = refl
 
 -- whether there are as many as an edit may take is seen from two
-pub listed_short : (pages : List ℕ) (n : ℕ) → n ≤ 2 → ltb (listed pages).count n ≡ ltb (length pages) n
+pub listed_short : (pages : List ℕ) (n : ℕ) → n ≤ 2 → ltb (length (free_list (listed pages))) n ≡ ltb (length pages) n
 listed_short pages n h =
-    let two : (listed pages).count ≡ min 2 (length pages) = length-take 2 pages in
+    let two : length (free_list (listed pages)) ≡ min 2 (length pages) = ap (λ (l : List ℕ). length l) (listed_front pages) ∙ length-take 2 pages in
     split (ltb (length pages) n)
-    (λ z. lt-ltb (listed pages).count n (omega (arith, two, ltb-true (length pages) n z)) ∙ sym z)
-    (λ z. le-ltb (listed pages).count n (omega (arith, two, ltb-false (length pages) n z)) ∙ sym z)
+    (λ z. lt-ltb _ n (omega (arith, two, ltb-true (length pages) n z)) ∙ sym z)
+    (λ z. le-ltb _ n (omega (arith, two, ltb-false (length pages) n z)) ∙ sym z)

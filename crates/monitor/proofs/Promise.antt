@@ -5,7 +5,7 @@
 --
 -- The calls are a list of cuts: a call that returns leaves what its limit lets it store, and one that is reset what it had stored. So
 -- `demand3` speaks of them, and the contract's equation says what the answer is.
-use Rattle.std.specs.Prelude.{if◌then◌else◌}
+use Rattle.std.specs.Prelude.{Result, if◌then◌else◌, Ok, Err}
 use mathlib.Core.Path.{◌≡◌, refl, sym, ap, ap₂, ◌∙◌, subst}
 use mathlib.Core.Logic.{inl, inr}
 use mathlib.Core.Bool.{Bool, true, false, false≢true}
@@ -31,7 +31,8 @@ use Rattle.types.specs.declared.Permission.TheVariants.{None, Rx, Rw, Rwx}
 use Rattle.types.specs.Views.{permission_number, reply_of}
 use Rattle.slots.specs.declared.Outcome.{Outcome}
 use Rattle.types.specs.declared.Reply.{Reply}
-use Rattle.types.specs.declared.Reply.TheVariants.{Refused, Opened, Closed, Edited}
+use Rattle.types.specs.declared.Reply.TheVariants.{Opened, Closed, Edited}
+use Rattle.types.specs.declared.Refusal.{Refusal}
 use Rattle.monitor.specs.Promise.{Reaches, Call, CrashConsistent, Ending, Kept, Recovers, interrupted, request, reset, returned}
 use Rattle.table.specs.Board.{ENTRY-VALUES, frame_of, frame_over}
 use Rattle.range.proofs.Lawful.{board_lawful}
@@ -62,11 +63,11 @@ permission_small Rw = omega arith
 permission_small Rwx = omega arith
 
 -- an answer that the model calls edited is Edited
-is_edited_lem : (r : Reply) (count : ℕ) (all : Bool) → reply_of r ≡ model.edited count all → r ≡ Edited count all
-is_edited_lem (Refused why) count all h = absurd (false≢true (ap is_edited h))
-is_edited_lem Opened count all h = absurd (false≢true (ap is_edited h))
-is_edited_lem Closed count all h = absurd (false≢true (ap is_edited h))
-is_edited_lem (Edited n b) count all h = ap₂ Edited (ap count_in h) (ap all_in h)
+is_edited_lem : (r : Result Reply Refusal) (count : ℕ) (all : Bool) → reply_of r ≡ model.edited count all → r ≡ Ok (Edited count all)
+is_edited_lem (Err why) count all h = absurd (false≢true (ap is_edited h))
+is_edited_lem (Ok Opened) count all h = absurd (false≢true (ap is_edited h))
+is_edited_lem (Ok Closed) count all h = absurd (false≢true (ap is_edited h))
+is_edited_lem (Ok (Edited n b)) count all h = ap₂ (λ (k : ℕ) (x : Bool). Ok (Edited k x)) (ap count_in h) (ap all_in h)
 
 module _ (f : Frame) (slots : List ℕ) (slot start size : ℕ) (permission : Permission) (m : List ℕ) (words : (i : ℕ) → get_or m i 0 < ENTRY-VALUES) where
   abbrev F : Frames.Frame
@@ -133,11 +134,11 @@ module _ (f : Frame) (slots : List ℕ) (slot start size : ℕ) (permission : Pe
 
   -- ---- an accepted one
 
-  accepted_by : (limit : ℕ) (r : Outcome) (m' : List ℕ) (count : ℕ) (all : Bool) → Call f slots slot start size permission limit m r m' → r.reply ≡ Edited count all
+  accepted_by : (limit : ℕ) (r : Outcome) (m' : List ℕ) (count : ℕ) (all : Bool) → Call f slots slot start size permission limit m r m' → r.reply ≡ Ok (Edited count all)
       → Accepted F slots q m
   accepted_by limit r m' count all c e =
       split (eqb (edit_refusal F m slots q) 0) (λ y. eqb-true _ _ y)
-      (λ n. absurd (false≢true (sym (refused_answer limit n) ∙ sym (ap (λ (o : model.Outcome). is_edited o.reply) c) ∙ ap (λ (x : Reply). is_edited (reply_of x)) e)))
+      (λ n. absurd (false≢true (sym (refused_answer limit n) ∙ sym (ap (λ (o : model.Outcome). is_edited o.reply) c) ∙ ap (λ (x : Result Reply Refusal). is_edited (reply_of x)) e)))
 
   module _ (accepted : Accepted F slots q m) where
     -- the calls are a list of cuts
@@ -200,7 +201,7 @@ module _ (f : Frame) (slots : List ℕ) (slot start size : ℕ) (permission : Pe
       (λ z. inr (eqb-false _ _ z, unchanged z es n h))
 
   -- a first call was accepted, with whatever limit; calls were made and cut, as many as may be; then the next one
-  pub promise : (limit : ℕ) (r : Outcome) (m' : List ℕ) (count : ℕ) (all : Bool) → Call f slots slot start size permission limit m r m' → r.reply ≡ Edited count all
+  pub promise : (limit : ℕ) (r : Outcome) (m' : List ℕ) (count : ℕ) (all : Bool) → Call f slots slot start size permission limit m r m' → r.reply ≡ Ok (Edited count all)
       → (es : List Ending) (n : List ℕ) → Reaches f slots slot start size permission es m n
       → (more : ℕ) (answer : Outcome) (n' : List ℕ) → Call f slots slot start size permission more n answer n'
       → Kept f slots slot start size permission m answer n'

@@ -1,6 +1,6 @@
 -- What a caller of `monitor::edit` may rely on when calls are cut, the contract and the third demand together: `Recovers` of the memory, wherever
 -- the last call ended; `Kept` of what the next one answers and leaves.
-use Rattle.std.specs.Prelude.{◌≡◌, ◌⊎◌, ◌≢◌, Bool, true, List, [], ◌∷◌, ℕ, ◌≤◌, suc, ◌+◌, ◌-◌, ◌*◌, ◌^◌, eqb, if◌then◌else◌}
+use Rattle.std.specs.Prelude.{◌≡◌, ◌⊎◌, ◌≢◌, Bool, true, List, [], ◌∷◌, ℕ, ◌≤◌, suc, ◌+◌, ◌-◌, ◌*◌, ◌^◌, eqb, if◌then◌else◌, Ok}
 use Rattle.model.specs.Forms.{Request}
 use Rattle.model.specs.Calls.{edit_refusal, edit_slot}
 use Rattle.model.specs.Demands.{Accepted, BeforeOrAfter, Done, SamePermissions, Steady, free_count, stopped, whole}
@@ -56,7 +56,7 @@ module _ (f : Frame) (slots : List ℕ) (slot start size : ℕ) (permission : Pe
     pub count : ℕ
     pub all : Bool
     -- it is not refused
-    pub accepted : r.reply ≡ Edited count all
+    pub accepted : r.reply ≡ Ok (Edited count all)
     pub slots_kept : r.slots ≡ slots
     -- 1,536 on RV64, 2,560 on RV32
     pub few : count ≤ 2 ^ (board.max_paw - 25) - 2 + 2 * suc board.words

@@ -12,7 +12,7 @@ use Rattle.model.specs.Numbers.{every}
 use Rattle.model.specs.Entry.{Entry}
 use Rattle.model.specs.Frame.{Frame}
 use Rattle.model.specs.Layout.{Layout}
-use Rattle.laws.proofs.Choices.{and_true, and_assoc}
+use Rattle.laws.proofs.Choices.{and_true}
 use Rattle.laws.proofs.Decoded.{flat_word_lem}
 use Rattle.laws.proofs.Every.{every_step}
 use Rattle.marks.specs.Marks.{Marks}
@@ -52,10 +52,6 @@ flat_both L a b =
     ap₂ (λ (x y : ℕ). ltb x 4 && eqb y 0) (or_shr a b k) (or_mod a b k)
     ∙ ap₂ ◌&&◌ (or_below (a / 2 ^ k) (b / 2 ^ k)) (or_zero (a % 2 ^ k) (b % 2 ^ k))
     ∙ swap (ltb (a / 2 ^ k) 4) (ltb (b / 2 ^ k) 4) (eqb (a % 2 ^ k) 0) (eqb (b % 2 ^ k) 0)
-
--- one word more, gathered: what was gathered and the rest decide the whole
-pub flat_gathered : (L : Layout) (a w : ℕ) (rest : Bool) → (flat_word L a && (flat_word L w && rest)) ≡ (flat_word L (bit_or a w) && rest)
-flat_gathered L a w rest = sym (and_assoc (flat_word L a) (flat_word L w) rest) ∙ ap (λ (t : Bool). t && rest) (sym (flat_both L a w))
 
 -- a run of them leaves the marks as they are
 pub flat_run : (F : Frame) (m : List ℕ) (r n s : ℕ) (k : Marks) → every (λ i. flat_word F.layout (get_or m (r + i) 0)) n s ≡ true

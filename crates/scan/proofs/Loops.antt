@@ -6,10 +6,13 @@ use Prim.Native.Nat.{ℕ, zero, suc, ◌+◌, ◌-◌, ◌≤◌, ◌<◌}
 use native.Mathlib.Nat.{zero-add, add-zero}
 use native.Mathlib.Numerals.{add-one}
 use native.Mathlib.Omega.{arith}
-use lib.ListN.{length, get_or, drop, drop_of_length-le}
+use lib.ListN.{length, get_or, take, drop, drop_of_length-le}
 use lib.Seq.{drop-cons}
+use Rattle.std.proofs.lemmas.List.{get_or-drop, get_or-take, length-drop, length-take-le}
+use Rattle.model.specs.Numbers.{every}
 use Rattle.model.specs.Entry.{decode}
 use Rattle.model.specs.Frame.{Frame, lent, index_of}
+use Rattle.laws.proofs.Every.{every_cong}
 use Rattle.laws.proofs.FrameNumbers.{entry_at_lem}
 use Rattle.marks.specs.Marks.{Marks}
 use Rattle.scan.specs.Scan.{Scan, unsound, marked, then_scan, scan_all, scan_run, claim_of, entry_step, word_step, block_step}
@@ -32,6 +35,48 @@ module _ (step : Marks → ℕ → Scan) (k : Marks) where
   pub all_ended : (l : List ℕ) (i : ℕ) → length l ≤ i → scan_all step k (drop i l) ≡ marked k
   unfolding scan_all
   all_ended l i h = ap (scan_all step k) (drop_of_length-le l h)
+
+  -- ---- a run of n numbers, at number i
+
+  module _ (n i : ℕ) where
+    module _ (h : i < n) where
+      run_turn : scan_run step k (n - i) i ≡ then_scan (step k i) (λ o. scan_run step o (n - (i + 1)) (i + 1))
+      unfolding scan_run
+      run_turn =
+          let u : n - i ≡ suc (n - (i + 1)) = omega arith in
+          ap (λ (c : ℕ). scan_run step k c i) u ∙ ap (λ (j : ℕ). then_scan (step k i) (λ o. scan_run step o (n - (i + 1)) j)) (sym (add-one i))
+
+      pub run_on : {j : Marks} → marked j ≡ step k i → scan_run step k (n - i) i ≡ scan_run step j (n - (i + 1)) (i + 1)
+      run_on said = run_turn ∙ ap (λ (s : Scan). then_scan s (λ o. scan_run step o (n - (i + 1)) (i + 1))) (sym said)
+
+      pub run_stopped : unsound ≡ step k i → scan_run step k (n - i) i ≡ unsound
+      run_stopped said = run_turn ∙ ap (λ (s : Scan). then_scan s (λ o. scan_run step o (n - (i + 1)) (i + 1))) (sym said)
+
+    pub run_ended : n ≤ i → scan_run step k (n - i) i ≡ marked k
+    unfolding scan_run
+    run_ended h = let u : n - i ≡ 0 = omega arith in ap (λ (c : ℕ). scan_run step k c i) u
+
+-- ---- the words from word a up to word e, which is not one of them, as a slice of the board's
+
+module _ (m : List ℕ) (a e : ℕ) (h : (a ≤ e) × (e ≤ length m)) where
+  part_length : length (take (e - a) (drop a m)) ≡ e - a
+  part_length = length-take-le (e - a) (drop a m) (omega (arith, length-drop a m))
+
+  pub part_word : (i : ℕ) → i < length (take (e - a) (drop a m)) → (i < e - a) × (get_or (take (e - a) (drop a m)) i 0 ≡ get_or m (a + i) 0)
+  part_word i l =
+      let within : i < e - a = omega (arith, part_length) in
+      (within, get_or-take (e - a) (drop a m) i 0 within ∙ get_or-drop a m i 0)
+
+  -- each word of the slice passes exactly when each of those words does
+  pub part_every : (test : ℕ → Bool)
+      → every (λ i. test (get_or (take (e - a) (drop a m)) i 0)) (length (take (e - a) (drop a m))) 0 ≡ every (λ i. test (get_or m (a + i) 0)) (e - a) 0
+  part_every test =
+      every_cong (λ i. test (get_or (take (e - a) (drop a m)) i 0)) (λ i. test (get_or m (a + i) 0)) (length (take (e - a) (drop a m))) 0
+      (λ i lo hi. ap test (part_word i (omega arith)).1)
+      ∙ ap (λ (n : ℕ). every (λ i. test (get_or m (a + i) 0)) n 0) part_length
+
+  pub part_end : (i : ℕ) → length (take (e - a) (drop a m)) ≤ i → e - a ≤ i
+  part_end i l = omega (arith, part_length)
 
 pub then_marked : (s : Scan) → then_scan s marked ≡ s
 then_marked unsound = refl
@@ -119,8 +164,3 @@ module _ (F : Frame) (m : List ℕ) (r : ℕ) where
 
     pub left_stopped : unsound ≡ scan_run (word_step F m a) k p 0 → left e a k ≡ unsound
     left_stopped said = turn ∙ ap (λ (t : Scan). then_scan t (λ o. left e (a + p) o)) (sym said)
-
-  -- one entry by itself
-  pub one_entry : (a : ℕ) (k : Marks) → scan_run (word_step F m a) k 1 0 ≡ entry_step F m k (decode F.layout (get_or m a 0))
-  unfolding scan_run
-  one_entry a k = ap (λ (i : ℕ). then_scan (entry_step F m k (decode F.layout (get_or m i 0))) marked) (add-zero a) ∙ then_marked _

@@ -1,9 +1,10 @@
 -- The free pages by the marks alone.
-use mathlib.Core.List.{List, [], ◌∷◌, head_d, tail}
-use Rattle.std.specs.Prelude.{ℕ, ◌-◌, length, take, if◌then◌else◌}
+use mathlib.Core.List.{List, [], ◌∷◌}
+use Rattle.std.specs.Prelude.{◌≡◌, ℕ, ◌-◌, Option, if◌then◌else◌, Some, None}
 use Rattle.model.specs.Numbers.{joined}
 use Rattle.model.specs.Frame.{Frame}
 use Rattle.types.specs.declared.Free.{Free}
+use Rattle.types.specs.declared.PageNumber.{PageNumber}
 use Rattle.marks.specs.Marks.{Marks, mark_at}
 
 -- a page, if it is marked; and the lent pages that are, lowest first
@@ -13,6 +14,13 @@ marked_at first marks page = if mark_at marks (page - first) then page ∷ [] el
 unfoldable pub marked_pages : Frame → Marks → List ℕ
 marked_pages F marks = joined (marked_at F.first marks) F.pages F.first
 
--- how many pages there are, up to two, and the first two; 0 stands for one that there is not
+-- the first two of some pages
 abbrev pub listed : List ℕ → Free
-listed pages = record { count = length (take 2 pages); first = record { 0 = head_d pages 0 }; second = record { 0 = head_d (tail pages) 0 } }
+listed [] = record { first = None; second = None }
+listed (page ∷ []) = record { first = Some (record { 0 = page }); second = None }
+listed (page ∷ next ∷ more) = record { first = Some (record { 0 = page }); second = Some (record { 0 = next }) }
+
+-- the first of some pages was picked, if there is one, and the others are left
+abbrev pub Picked : List ℕ → Option PageNumber → List ℕ → Type 0
+Picked pages (Some page) left = pages ≡ page.0 ∷ left
+Picked pages None left = (pages ≡ []) × (left ≡ [])

@@ -1,5 +1,7 @@
 -- The pass over a table: a page that is met loses its mark, and one that has lost it was met before. The contracts of `sound` cite this.
-use Rattle.std.specs.Prelude.{Bool, true, false, ◌&&◌, List, [], ◌∷◌, ℕ, zero, suc, ◌+◌, ◌-◌, ◌/◌, ◌%◌, ◌^◌, eqb, ltb, get_or, if◌then◌else◌}
+use Rattle.std.specs.Prelude.{◌≡◌, Bool, true, false, ◌&&◌, List, [], ◌∷◌, ℕ, zero, suc, ◌+◌, ◌-◌, ◌/◌, ◌%◌, ◌^◌, eqb, ltb, get_or, length, if◌then◌else◌}
+use lib.Bits.{bit_or}
+use Rattle.model.specs.Numbers.{every}
 use Rattle.model.specs.Layout.{Layout}
 use Rattle.model.specs.Register.{ppn_of, wpri_of, sdid_of, mode_of}
 use Rattle.model.specs.Entry.{Entry, flat, pieces, table, invalid, decode}
@@ -38,6 +40,11 @@ take_mark marks i = scanned (mark_at marks i) (unmark marks i)
 -- an L2 entry of the "1G" types, by its word: TYPE below 4, ZERO and INFO zero
 unfoldable pub flat_word : Layout → ℕ → Bool
 flat_word L w = ltb (w / 2 ^ L.info_bits) 4 && eqb (w % 2 ^ L.info_bits) 0
+
+-- all is these words gathered by `|`: a test that holds of a `|` exactly when it holds of both its words holds of all exactly when it holds of each word
+abbrev pub GatheredBy : List ℕ → ℕ → Type 0
+GatheredBy words all =
+    (test : ℕ → Bool) → test 0 ≡ true → ((a b : ℕ) → test (bit_or a b) ≡ (test a && test b)) → test all ≡ every (λ i. test (get_or words i 0)) (length words) 0
 
 -- a slot's register: "MODE 1, WPRI zero, distinct SDIDs". A mark for each SDID that was not met before
 unfoldable pub register_step : Layout → Marks → Slot → Scan

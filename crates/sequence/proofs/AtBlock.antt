@@ -1,6 +1,6 @@
 -- An edit between two of its blocks: those below b are done, and what the memory as it stands has of the blocks ahead is what the edit found. So
 -- their forms, their stores and their new pages are the same from both.
-use Rattle.std.specs.Prelude.{if◌then◌else◌}
+use Rattle.std.specs.Prelude.{if◌then◌else◌, Option, Some, None}
 use mathlib.Core.Path.{◌≡◌, refl, sym, ap, ap₂, ◌∙◌}
 use mathlib.Core.Bool.{Bool}
 use mathlib.Core.Logic.{⊎_elim}
@@ -22,8 +22,7 @@ use Rattle.theory.proofs.OneCall.{At, at_start}
 use Rattle.theory.proofs.Plans.{AllAt, FitsAll, PlannedCall}
 use Rattle.theory.proofs.Walks.{entry_word}
 use Rattle.types.specs.declared.Budget.{Budget}
-use Rattle.types.specs.declared.Gib.{Gib}
-use Rattle.shapes.specs.Blocks.{GibIs, form_in_gib, form_of_block, stores_in_gib, stores_over, pages_over}
+use Rattle.shapes.specs.Blocks.{GibIs, has_one, one_of, form_in_gib, form_of_block, stores_in_gib, stores_over, pages_over}
 use Rattle.shapes.specs.Rooted.{Rooted}
 use Rattle.shapes.proofs.Order.{Remaining, remaining_start}
 use Rattle.shapes.proofs.PageLaws.{stores_same}
@@ -100,29 +99,31 @@ module _ {F : Frame} {m0 : List ℕ} {q : Request} {root : ℕ} {free : List ℕ
       let y : walk F m0 root n ≡ perm (after F m0 q root n) = after_outside F k.ok k.rs m0 k.sound q root n lr u z in
       perm_inj _ _ (sym x ∙ ⊎_elim (λ e. e ∙ y) (λ e. e.1) (s.here.step.reads root n lr u)))
 
-  -- a GiB's flag says the same of both memories
-  module _ (g : ℕ) (gib : Gib) (u : g * gib_blocks + gib_blocks ≤ blocks F) where
+  -- what is said of a GiB's one permission is so of both memories
+  module _ (g : ℕ) (u : g * gib_blocks + gib_blocks ≤ blocks F) where
     first_same : gib_first F m q root g ≡ gib_first F m0 q root g
     first_same = same_first F k.ok q k.low root m0 m after_same g u
 
-    one_same : gib_is_one F m q root g gib.p ≡ gib_is_one F m0 q root g gib.p
-    one_same = same_gib F k.ok q k.low root m0 m after_same g gib.p u
+    one_same : (p : ℕ) → gib_is_one F m q root g p ≡ gib_is_one F m0 q root g p
+    one_same p = same_gib F k.ok q k.low root m0 m after_same g p u
 
-    pub gib_same : GibIs F m0 q root g gib → GibIs F m q root g gib
-    gib_same h = (h.0 ∙ sym first_same, h.1 ∙ sym one_same, h.2)
+    pub gib_same : (gib : Option ℕ) → GibIs F m0 q root g gib → GibIs F m q root g gib
+    gib_same (Some p) h = (h.0 ∙ sym first_same, one_same p ∙ h.1, h.2)
+    gib_same None h = one_same (gib_first F m q root g) ∙ ap (gib_is_one F m0 q root g) first_same ∙ h
 
-    pub gib_back : GibIs F m q root g gib → GibIs F m0 q root g gib
-    gib_back h = (h.0 ∙ first_same, h.1 ∙ one_same, h.2)
+    pub gib_back : (gib : Option ℕ) → GibIs F m q root g gib → GibIs F m0 q root g gib
+    gib_back (Some p) h = (h.0 ∙ first_same, sym (one_same p) ∙ h.1, h.2)
+    gib_back None h = ap (gib_is_one F m0 q root g) (sym first_same) ∙ sym (one_same (gib_first F m q root g)) ∙ h
 
   -- ---- the blocks ahead
 
-  module _ (gib : Gib) where
+  module _ (gib : Option ℕ) where
     module _ (c : ℕ) (lo : b ≤ c) (hi : c < blocks F) where
       entry_over : entry_at F m root c ≡ entry_at F m0 root c
       entry_over = entry_word F m0 m root c (s.here.ahead c lo hi)
 
       form_over : form_in_gib F m q root gib c ≡ form_in_gib F m0 q root gib c
-      form_over = same_form F k.ok q k.low root m0 m after_same gib.one gib.p c hi
+      form_over = same_form F k.ok q k.low root m0 m after_same (has_one gib) (one_of gib) c hi
 
       stores_over_lem : (new : ℕ) → stores_in_gib F m q root gib c new ≡ stores_in_gib F m0 q root gib c new
       stores_over_lem new =

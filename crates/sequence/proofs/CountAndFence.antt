@@ -12,10 +12,12 @@ use lib.Seq.{get_or-take, length-take-le, take_all}
 use borrow.Author.Tests.{le-leb, lt-leb, ne_eqb}
 use Rattle.model.specs.Calls.{finished, root_of, store_list, store_list_with}
 use Rattle.shapes.proofs.RunLaws.{run_whole, run_short}
-use Rattle.sequence.specs.StoresMade.{fence_after}
+use Rattle.sequence.specs.StoresMade.{fence_after, StoresMadeIs}
 use Rattle.sequence.specs.Prepared.{whole_list}
 use Rattle.shapes.specs.Run.{all_made, limit_reached, run_from, run}
+use Rattle.types.specs.Views.{fence_of}
 use Rattle.types.specs.declared.Budget.{Budget}
+use Rattle.types.specs.declared.Fence as code
 use Rattle.laws.proofs.Choices.{split}
 use Rattle.model.specs.Fence.{no_fence, domain_fence, address_fence, in_root, one_l1_store, fence_for}
 use Rattle.model.specs.Forms.{Request, first_gib, forms}
@@ -37,13 +39,13 @@ module _ (F : Frame) (q : Request) (root sdid : ℕ) (list : List Store) (limit 
     pub all_fits : length list + l.more ≡ limit
     all_fits = (run_whole (record { more = limit; last = 0 }) list m l m' e).0
 
-    pub all_memory : m' ≡ apply (take limit list) m
+    all_memory : m' ≡ apply (take limit list) m
     all_memory = (run_whole (record { more = limit; last = 0 }) list m l m' e).1 ∙ ap (λ (x : List Store). apply x m) (sym (take_all limit list (omega (arith, all_fits))))
 
-    pub all_count : limit - l.more ≡ length (take limit list)
+    all_count : limit - l.more ≡ length (take limit list)
     all_count = let z : limit - l.more ≡ length list = omega (arith, all_fits) in z ∙ ap (λ (x : List Store). length x) (sym (take_all limit list (omega (arith, all_fits))))
 
-    pub all_true : true ≡ leb (length list) limit
+    all_true : true ≡ leb (length list) limit
     all_true = sym (le-leb (length list) limit (omega (arith, all_fits)))
 
     one_here : (x : List Store) → x ≡ list → (eqb (length x) 1 && (true && not (in_root F root l.last))) ≡ one_l1_store F root x
@@ -52,7 +54,7 @@ module _ (F : Frame) (q : Request) (root sdid : ℕ) (list : List Store) (limit 
     one_here (s ∷ []) z = ap (λ (k : ℕ). not (in_root F root k)) (last_of limit s m l m' (ap (λ (y : List Store). run (record { more = limit; last = 0 }) y m) z ∙ e))
     one_here (s ∷ t ∷ ss) z = rw (ne_eqb (suc (suc (length ss))) 1 (λ y. omega (arith, y)))
 
-    pub all_fence : fence_after F q root sdid (limit - l.more) true l.last ≡ fence_for F root q sdid list limit
+    all_fence : fence_after F q root sdid (limit - l.more) true l.last ≡ fence_for F root q sdid list limit
     unfolding fence_after fence_for
     all_fence =
         let z : limit - l.more ≡ length list = omega (arith, all_fits) in
@@ -60,18 +62,22 @@ module _ (F : Frame) (q : Request) (root sdid : ℕ) (list : List Store) (limit 
         ∙ ap₂ (λ (c : ℕ) (o : Bool). if eqb c 0 then no_fence else if eqb q.size page_bytes && o then address_fence q.start sdid else domain_fence sdid)
         (sym z ∙ all_count) (one_here list refl)
 
+    pub all_is : (fence : code.Fence) → fence_of fence ≡ fence_after F q root sdid (limit - l.more) true l.last
+        → StoresMadeIs F q root sdid list limit m m' (record { count = limit - l.more; all = true; fence = fence })
+    all_is fence z = record { memory = all_memory; count = all_count; all = all_true; fence = z ∙ all_fence }
+
   -- the limit cut them
   module _ (m' : List ℕ) (e : run (record { more = limit; last = 0 }) list m ≡ limit_reached m') where
     few : limit < length list
     few = (run_short (record { more = limit; last = 0 }) list m m' e).0
 
-    pub cut_memory : m' ≡ apply (take limit list) m
+    cut_memory : m' ≡ apply (take limit list) m
     cut_memory = (run_short (record { more = limit; last = 0 }) list m m' e).1
 
-    pub cut_count : limit ≡ length (take limit list)
+    cut_count : limit ≡ length (take limit list)
     cut_count = sym (length-take-le limit list (omega (arith, few)))
 
-    pub cut_false : false ≡ leb (length list) limit
+    cut_false : false ≡ leb (length list) limit
     cut_false = sym (lt-leb (length list) limit few)
 
     many : (x : List Store) → 1 < length x → one_l1_store F root x ≡ false
@@ -85,13 +91,17 @@ module _ (F : Frame) (q : Request) (root sdid : ℕ) (list : List Store) (limit 
     no_and true false = refl
     no_and false b = refl
 
-    pub cut_fence : fence_after F q root sdid limit false 0 ≡ fence_for F root q sdid list limit
+    cut_fence : fence_after F q root sdid limit false 0 ≡ fence_for F root q sdid list limit
     unfolding fence_after fence_for
     cut_fence =
         split (eqb limit 0)
         (λ z. rw (sym cut_count, z))
         (λ z. rw (sym cut_count, z, many list (omega (arith, few, borrow.Author.Tests.eqb-false limit 0 z)))
         (ap (λ (b : Bool). if b then address_fence q.start sdid else domain_fence sdid) (no_and (eqb q.size page_bytes) (eqb limit 1))))
+
+    pub cut_is : (fence : code.Fence) → fence_of fence ≡ fence_after F q root sdid limit false 0
+        → StoresMadeIs F q root sdid list limit m m' (record { count = limit; all = false; fence = fence })
+    cut_is fence z = record { memory = cut_memory; count = cut_count; all = cut_false; fence = z ∙ cut_fence }
 
 -- ---- the list in the model's own words: the two lowest free pages stand for all
 

@@ -1,5 +1,5 @@
 -- Several blocks of one GiB: their stores, made one block after the other, take the edit on by as many blocks, or the limit cuts the whole edit.
-use Rattle.std.specs.Prelude.{if◌then◌else◌}
+use Rattle.std.specs.Prelude.{if◌then◌else◌, Option}
 use mathlib.Core.Path.{◌≡◌, refl, sym, ap, ap₂, ◌∙◌, subst, subst₂}
 use mathlib.Core.Bool.{Bool}
 use mathlib.Core.List.{List, ◌++◌, head_d, tail}
@@ -15,7 +15,6 @@ use Rattle.model.specs.Layout.{gib_blocks}
 use Rattle.model.specs.Stores.{Store, needs_page, stores_from, new_pages}
 use Rattle.model.specs.Walk.{entry_at}
 use Rattle.types.specs.declared.Budget.{Budget}
-use Rattle.types.specs.declared.Gib.{Gib}
 use Rattle.shapes.specs.Blocks.{GibIs, form_in_gib, stores_in_gib, stores_over, pages_over}
 use Rattle.shapes.specs.Run.{Out, all_made, limit_reached, run}
 use Rattle.shapes.proofs.RunLaws.{run_none, run_on, run_off}
@@ -33,7 +32,7 @@ module _ {F : Frame} {m0 : List ℕ} {q : Request} {root : ℕ} {free : List ℕ
   Ends b next (all_made l m) = AtBlock k limit m b next l
   Ends b next (limit_reached m) = limit_reached m ≡ run limit (whole_list F m0 q root free) m0
 
-  module _ (gib : Gib) where
+  module _ (gib : Option ℕ) where
     -- the stores of n blocks, and their new pages, as the edit found them
     abbrev stores : ℕ → ℕ → List ℕ → List Store
     stores n b fr = stores_over F m0 q root gib n b fr

@@ -1,5 +1,7 @@
 -- The loop over the blocks, in the code's words, with the frame beside the memory as it stands: before block b the edit stands there (`AtBlock`),
--- and the GiB's flag is known but at its first block. Some blocks of one GiB, stored, lead to the block behind them; past the last, all is made.
+-- and whether its GiB is of one permission is known but at the GiB's first block. Some blocks of one GiB, stored, lead to the block behind them;
+-- past the last, all is made.
+use Rattle.std.specs.Prelude.{Option}
 use mathlib.Core.Path.{◌≡◌, sym, ap, ◌∙◌, subst}
 use mathlib.Core.List.{List, head_d}
 use Prim.Native.Nat.{ℕ, ◌+◌, ◌*◌, ◌-◌, ◌/◌, ◌%◌, ◌≤◌, ◌<◌}
@@ -10,7 +12,6 @@ use Rattle.model.specs.Frame.{Frame, blocks}
 use Rattle.model.specs.Layout.{gib_blocks, gib_bytes}
 use Rattle.model.specs.Stores.{Store}
 use Rattle.types.specs.declared.Budget.{Budget}
-use Rattle.types.specs.declared.Gib.{Gib}
 use Rattle.shapes.specs.Ahead.{Ahead}
 use Rattle.shapes.specs.Blocks.{GibIs, stores_over, pages_over}
 use Rattle.shapes.specs.Rooted.{Rooted}
@@ -23,7 +24,7 @@ use Rattle.sequence.proofs.Facts.{Facts}
 use Rattle.sequence.proofs.GibBlockLaws.{Ends, run_gib_blocks}
 use Rattle.sequence.proofs.NextBlock.{at_block_ahead, at_block_end, has_new_page}
 
-pub record LoopInvariant (over : ℕ → Frame) (m0 : List ℕ) (q : Request) (root : ℕ) (free : List ℕ) (limit : Budget) (end : ℕ) (m : List ℕ) (b : ℕ) (gib : Gib) (next : ℕ) (left : Budget) : Type 0 where
+pub record LoopInvariant (over : ℕ → Frame) (m0 : List ℕ) (q : Request) (root : ℕ) (free : List ℕ) (limit : Budget) (end : ℕ) (m : List ℕ) (b : ℕ) (gib : Option ℕ) (next : ℕ) (left : Budget) : Type 0 where
   pub k : Facts (over (length m0)) m0 q root free
   pub at_block : AtBlock k limit m b next left
   pub is_end : end ≡ first_gib q * gib_blocks + gibs q * gib_blocks
@@ -32,7 +33,7 @@ pub record LoopInvariant (over : ℕ → Frame) (m0 : List ℕ) (q : Request) (r
   pub flag : (b % gib_blocks ≡ 0 → ⊥) → GibIs (over (length m0)) m0 q root (b / gib_blocks) gib
 
 module _ {over : ℕ → Frame} {m0 : List ℕ} {q : Request} {root : ℕ} {free : List ℕ} {limit : Budget} {end : ℕ} where
-  pub invariant_start : {b : ℕ} {gib : Gib} → Facts (over (length m0)) m0 q root free → end ≡ ((q.start + q.size - 1) / gib_bytes + 1) * gib_blocks → b ≡ q.start / gib_bytes * gib_blocks
+  pub invariant_start : {b : ℕ} {gib : Option ℕ} → Facts (over (length m0)) m0 q root free → end ≡ ((q.start + q.size - 1) / gib_bytes + 1) * gib_blocks → b ≡ q.start / gib_bytes * gib_blocks
       → LoopInvariant over m0 q root free limit end m0 b gib 0 limit
   unfolding first_gib gibs
   invariant_start k e z =
@@ -44,7 +45,7 @@ module _ {over : ℕ → Frame} {m0 : List ℕ} {q : Request} {root : ℕ} {free
         flag = λ ne. absurd (ne (omega (arith, z)));
       }
 
-  module _ {m : List ℕ} {b : ℕ} {gib : Gib} {next : ℕ} {left : Budget} (t : LoopInvariant over m0 q root free limit end m b gib next left) where
+  module _ {m : List ℕ} {b : ℕ} {gib : Option ℕ} {next : ℕ} {left : Budget} (t : LoopInvariant over m0 q root free limit end m b gib next left) where
     abbrev F : Frame
     F = over (length m0)
 
@@ -69,12 +70,12 @@ module _ {over : ℕ → Frame} {m0 : List ℕ} {q : Request} {root : ℕ} {free
       invariant_room = now' (λ X. b / gib_blocks * gib_blocks + gib_blocks ≤ blocks X) gib_room
 
       pub invariant_flag : (b % gib_blocks ≡ 0 → ⊥) → GibIs (over (length m)) m q root (b / gib_blocks) gib
-      invariant_flag ne = now' (λ X. GibIs X m q root (b / gib_blocks) gib) (gib_same t.at_block (b / gib_blocks) gib gib_room (t.flag ne))
+      invariant_flag ne = now' (λ X. GibIs X m q root (b / gib_blocks) gib) (gib_same t.at_block (b / gib_blocks) gib_room gib (t.flag ne))
 
-      -- the GiB's flag is known
-      module _ (g : Gib) (is : GibIs (over (length m)) m q root (b / gib_blocks) g) where
+      -- whether the GiB is of one permission is known
+      module _ (g : Option ℕ) (is : GibIs (over (length m)) m q root (b / gib_blocks) g) where
         found : GibIs F m0 q root (b / gib_blocks) g
-        found = gib_back t.at_block (b / gib_blocks) g gib_room (subst (λ (X : Frame). GibIs X m q root (b / gib_blocks) g) (ap over invariant_length) is)
+        found = gib_back t.at_block (b / gib_blocks) gib_room g (subst (λ (X : Frame). GibIs X m q root (b / gib_blocks) g) (ap over invariant_length) is)
 
         in_gib : (n : ℕ) → b % gib_blocks + n ≤ gib_blocks → (c : ℕ) → b ≤ c → c < b + n → GibIs F m0 q root (c / gib_blocks) g
         in_gib n u c lo hi = let x : b / gib_blocks ≡ c / gib_blocks = omega arith in subst (λ (d : ℕ). GibIs F m0 q root d g) x found

@@ -1,6 +1,6 @@
 -- One more block: its form heads those that are left, so its stores head the stores that are left; once they are made the edit stands before
 -- the block behind it, and if the limit cuts them it cuts the whole.
-use Rattle.std.specs.Prelude.{if◌then◌else◌}
+use Rattle.std.specs.Prelude.{if◌then◌else◌, Option, Some, None}
 use mathlib.Core.Path.{◌≡◌, refl, sym, ap, ◌∙◌, subst, subst₂}
 use mathlib.Core.Bool.{Bool, true, false}
 use mathlib.Core.List.{List, [], ◌∷◌, ◌++◌, append_assoc, head_d, tail}
@@ -11,7 +11,7 @@ use lib.ListN.{length, drop, length-append, length-drop}
 use Rattle.laws.proofs.Choices.{split}
 use Rattle.laws.proofs.Fronts.{drop_tail}
 use Rattle.laws.proofs.Times.{head_times}
-use Rattle.model.specs.Forms.{Request, Form, after, form_in, forms_in, gib_is_one, first_gib, gibs}
+use Rattle.model.specs.Forms.{Request, Form, after, form_in, forms_in, gib_first, gib_is_one, first_gib, gibs}
 use Rattle.model.specs.Frame.{Frame}
 use Rattle.model.specs.Layout.{gib_blocks}
 use Rattle.model.specs.Stores.{Store, apply, needs_page, stores_from, new_pages}
@@ -20,10 +20,10 @@ use Rattle.theory.proofs.Frames.{lent_ppn}
 use Rattle.theory.proofs.OneCall.{At, spot, next as at_next}
 use Rattle.theory.proofs.Plans.{AllAt, FitsAll}
 use Rattle.types.specs.declared.Budget.{Budget}
-use Rattle.types.specs.declared.Gib.{Gib}
 use Rattle.shapes.specs.Ahead.{Ahead}
 use Rattle.shapes.specs.Blocks.{GibIs, form_in_gib, form_of_block, stores_in_gib, stores_over}
 use Rattle.shapes.specs.Run.{Out, all_made, limit_reached, run}
+use Rattle.shapes.proofs.FormLaws.{form_not}
 use Rattle.shapes.proofs.Order.{Remaining, remaining_end, remaining_ahead, remaining_next, remaining_cut}
 use Rattle.shapes.proofs.RunLaws.{run_whole}
 use Rattle.sequence.specs.GibBlocks.{HasNewPage}
@@ -48,14 +48,17 @@ module _ {F : Frame} {m0 : List ℕ} {q : Request} {root : ℕ} {free : List ℕ
   post_count : b + length s.post ≡ end
   post_count = omega (arith, forms_count k, ap (λ (l : List Form). length l) s.parts, length-append s.pre s.post, s.at)
 
-  form_found : (gib : Gib) (c : ℕ) → GibIs F m0 q root (c / gib_blocks) gib → form_in_gib F m0 q root gib c ≡ form_of_block F m0 q root c
-  form_found gib c gi =
-      ap (λ (x : Bool). form_in F m0 q x gib.p (entry_at F m0 root c) c) gi.1
+  form_found : (gib : Option ℕ) (c : ℕ) → GibIs F m0 q root (c / gib_blocks) gib → form_in_gib F m0 q root gib c ≡ form_of_block F m0 q root c
+  form_found (Some p) c gi =
+      ap (λ (x : Bool). form_in F m0 q x p (entry_at F m0 root c) c) (sym gi.1)
       ∙ ap (λ (x : ℕ). form_in F m0 q (gib_is_one F m0 q root (c / gib_blocks) x) x (entry_at F m0 root c) c) gi.0
+  form_found None c gi =
+      let p : ℕ = gib_first F m0 q root (c / gib_blocks) in
+      form_not F m0 q (entry_at F m0 root c) c p ∙ ap (λ (x : Bool). form_in F m0 q x p (entry_at F m0 root c) c) (sym gi)
 
   -- ---- the stores of several blocks of one GiB begin those of all blocks ahead
 
-  front : (gib : Gib) (n : ℕ) (post : List Form) (c : ℕ) (xs : List ℕ) → n ≤ length post → AllAt (λ d fm. fm ≡ form_of_block F m0 q root d) c post
+  front : (gib : Option ℕ) (n : ℕ) (post : List Form) (c : ℕ) (xs : List ℕ) → n ≤ length post → AllAt (λ d fm. fm ≡ form_of_block F m0 q root d) c post
       → ((d : ℕ) → c ≤ d → d < c + n → GibIs F m0 q root (d / gib_blocks) gib) → (rest : List Store) × (stores_from F m0 q root c post xs ≡ stores_over F m0 q root gib n c xs ++ rest)
   unfolding stores_from forms_in
   front gib zero post c xs h named gi = (stores_from F m0 q root c post xs, refl)
@@ -69,12 +72,12 @@ module _ {F : Frame} {m0 : List ℕ} {q : Request} {root : ℕ} {free : List ℕ
         ap (λ (x : Form). stores_from F m0 q root c (x ∷ post) xs) is ∙ ap (λ (l : List Store). new ++ l) more.1 ∙ sym (append_assoc new (stores_over F m0 q root gib n (suc c) left') more.0),
       )
 
-  pub at_block_ahead : (gib : Gib) (n : ℕ) → b + n ≤ end → ((d : ℕ) → b ≤ d → d < b + n → GibIs F m0 q root (d / gib_blocks) gib) → Ahead m (stores_over F m0 q root gib n b fr)
+  pub at_block_ahead : (gib : Option ℕ) (n : ℕ) → b + n ≤ end → ((d : ℕ) → b ≤ d → d < b + n → GibIs F m0 q root (d / gib_blocks) gib) → Ahead m (stores_over F m0 q root gib n b fr)
   at_block_ahead gib n h gi = let f = front gib n s.post b fr (omega (arith, post_count)) s.named gi in remaining_ahead s.remaining _ f.0 f.1
 
   -- ---- the next block
 
-  module _ (some : b < end) (gib : Gib) (gi : GibIs F m0 q root (b / gib_blocks) gib) where
+  module _ (some : b < end) (gib : Option ℕ) (gi : GibIs F m0 q root (b / gib_blocks) gib) where
     abbrev form : Form
     form = form_in_gib F m0 q root gib b
 

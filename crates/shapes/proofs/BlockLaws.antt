@@ -1,6 +1,6 @@
 -- Several blocks of one GiB at once: where each block's stores are that of its entry, if it changes, those of a row of entries are those
 -- of its blocks.
-use Rattle.std.specs.Prelude.{if◌then◌else◌}
+use Rattle.std.specs.Prelude.{if◌then◌else◌, Option, Some, None}
 use mathlib.Core.Path.{◌≡◌, refl, sym, ap, ap₂, ◌∙◌}
 use mathlib.Core.Bool.{Bool, true, false}
 use mathlib.Core.List.{List, [], ◌∷◌, ◌++◌, append_assoc, append-nil, head_d, tail}
@@ -19,7 +19,6 @@ use Rattle.model.specs.Numbers.{joined}
 use Rattle.model.specs.Stores.{Store, store_at, store_l2, if_changed_l2, block_stores, needs_page, new_pages, stores_from}
 use Rattle.model.specs.Walk.{entry_at, entry_page, entry_place, l2_word}
 use Rattle.theory.proofs.Entries.{Small, decode_small}
-use Rattle.types.specs.declared.Gib.{Gib}
 use Rattle.shapes.specs.Ahead.{Ahead}
 use Rattle.shapes.specs.Rooted.{Good}
 use Rattle.shapes.specs.Words.{flat_info}
@@ -27,7 +26,7 @@ use Rattle.shapes.specs.Blocks.{form_in_gib, stores_in_gib, stores_over, pages_o
 use Rattle.shapes.specs.Rows.{change_at, row_stores, entry_as_pieces, word_as_pieces}
 use Rattle.shapes.proofs.Shape.{Shape}
 use Rattle.shapes.proofs.EntryLaws.{after_small}
-use Rattle.shapes.proofs.FormLaws.{form_flat_out, form_pieces_out, form_not}
+use Rattle.shapes.proofs.FormLaws.{form_flat_out, form_pieces_out}
 use Rattle.shapes.proofs.Order.{ahead_of, ahead_first}
 use Rattle.shapes.proofs.PageLaws.{index_next}
 
@@ -46,7 +45,7 @@ pub changed_l2 : (F : Frame) (m : List ℕ) (root b w at : ℕ) → at ≡ index
 unfolding if_changed_l2 l2_word word_at store_l2 store_at entry_page entry_place
 changed_l2 F m root b w at e = ap (λ (k : ℕ). if eqb (get_or m k 0) w then [] else record { at = k; word = w } ∷ []) e
 
-module _ (F : Frame) (m : List ℕ) (q : Request) (root : ℕ) (gib : Gib) where
+module _ (F : Frame) (m : List ℕ) (q : Request) (root : ℕ) (gib : Option ℕ) where
   -- ---- one block
 
   pub over_one : (b : ℕ) (fr : List ℕ) → stores_over F m q root gib 1 b fr ≡ stores_in_gib F m q root gib b (head_d fr 0)
@@ -101,35 +100,33 @@ module _ (F : Frame) (m : List ℕ) (q : Request) (root : ℕ) (gib : Gib) where
 
 -- ---- the two kinds of row
 
-module _ (F : Frame) (m : List ℕ) (q : Request) (root : ℕ) (gib : Gib) where
+module _ (F : Frame) (m : List ℕ) (q : Request) (root : ℕ) where
   -- a GiB of one permission
-  pub flat_entry : gib.one ≡ true → (c : ℕ) → Entrywise F m q root gib (λ w. gib.p * 2 ^ F.layout.info_bits) c
+  pub flat_entry : (p c : ℕ) → Entrywise F m q root (Some p) (λ w. p * 2 ^ F.layout.info_bits) c
   unfolding form_in block_stores needs_page encode
-  flat_entry z c = record { stores = λ new. rw z; page = rw z }
+  flat_entry p c = record { stores = λ new. refl; page = refl }
 
   -- outside the range, in a GiB that is not: an entry without an L1 page
-  module _ (sh : Shape F.layout) (low : q.permission < 4) (mixed : gib.one ≡ false) (ro : lent F root ≡ true) (c : ℕ) (g : Good F m (entry_at F m root c))
+  module _ (sh : Shape F.layout) (low : q.permission < 4) (ro : lent F root ≡ true) (c : ℕ) (g : Good F m (entry_at F m root c))
       (o : (k : ℕ) → c * block_pages ≤ k → k < c * block_pages + block_pages → in_range q k ≡ false) (some : word_as_pieces F.layout (get_or m (index_of F root c) 0) ≡ 0 → ⊥) where
     said : entry_at F m root c ≡ decode F.layout (l2_word F m root c)
     unfolding entry_at l2_word word_at entry_page entry_place
     said = rw ro refl
 
     made : (info : ℕ) → want_pieces info ≡ form_in F m q false 0 (entry_at F m root c) c → word_as_pieces F.layout (l2_word F m root c) ≡ F.layout.piece_type * 2 ^ F.layout.info_bits + info
-        → Entrywise F m q root gib (word_as_pieces F.layout) c
+        → Entrywise F m q root None (word_as_pieces F.layout) c
     unfolding needs_page block_stores encode
     made info z w =
-        let form : form_in_gib F m q root gib c ≡ want_pieces info
-        = ap (λ (x : Bool). form_in F m q x gib.p (entry_at F m root c) c) mixed ∙ sym (z ∙ form_not F m q (entry_at F m root c) c gib.p) in
         record {
-          stores = λ new. ap (λ (x : Form). block_stores F m q root x (entry_at F m root c) c new) form ∙ ap (if_changed_l2 F m root c) (sym w);
-          page = ap (λ (x : Form). needs_page x (entry_at F m root c)) form;
+          stores = λ new. ap (λ (x : Form). block_stores F m q root x (entry_at F m root c) c new) (sym z) ∙ ap (if_changed_l2 F m root c) (sym w);
+          page = ap (λ (x : Form). needs_page x (entry_at F m root c)) (sym z);
         }
 
-    pub pieces_entry : Entrywise F m q root gib (word_as_pieces F.layout) c
+    pub pieces_entry : Entrywise F m q root None (word_as_pieces F.layout) c
     unfolding l2_word word_at entry_page entry_place
     pieces_entry = go (decode F.layout (l2_word F m root c)) refl (decode_small F.layout sh.lawful (l2_word F m root c))
       where
-        go : (e : Entry) → decode F.layout (l2_word F m root c) ≡ e → Small F.layout sh.lawful e → Entrywise F m q root gib (word_as_pieces F.layout) c
+        go : (e : Entry) → decode F.layout (l2_word F m root c) ≡ e → Small F.layout sh.lawful e → Entrywise F m q root None (word_as_pieces F.layout) c
         go (flat x) z s = made (flat_info F.layout x) (form_flat_out F sh m q low (entry_at F m root c) g c o x (said ∙ z)) (ap (entry_as_pieces F.layout) z)
         go (pieces x) z s = made x (form_pieces_out F sh m q low (entry_at F m root c) g c o x (said ∙ z) s) (ap (entry_as_pieces F.layout) z)
         go (table t) z s = absurd (some (ap (entry_as_pieces F.layout) z))

@@ -111,31 +111,31 @@ module _ {over : ℕ → Frame} {q : Request} {t b : ℕ} {m0 : List ℕ} {left 
       same_ahead =
           subst (λ (X : Frame). Ahead m (one X m q t b i)) (sym (ap over s.size)) (ahead_of (sym as_found) (remaining_ahead s.remaining (gs i) _ (joined_next gs W i h)))
 
-      module _ {o : Out} (said : o ≡ run more (one (over (length m)) m q t b i) m) where
-        here : o ≡ run more (one G m q t b i) m
-        here = subst (λ (X : Frame). o ≡ run more (one X m q t b i) m) (ap over s.size) said
+      -- it is stored
+      here : {o : Out} → o ≡ run more (one (over (length m)) m q t b i) m → o ≡ run more (one G m q t b i) m
+      here {o} said = subst (λ (X : Frame). o ≡ run more (one X m q t b i) m) (ap over s.size) said
 
-        step : o ≡ run more (gs i) m
-        step = here ∙ ap (λ (ss : List Store). run more ss m) as_found
+      step : {o : Out} → o ≡ run more (one (over (length m)) m q t b i) m → o ≡ run more (gs i) m
+      step said = here said ∙ ap (λ (ss : List Store). run more ss m) as_found
 
-        pub same_cut : {m' : List ℕ} → o ≡ limit_reached m' → o ≡ run left (same_table G m0 q (table t) b t) m0
-        same_cut z = z ∙ remaining_cut s.remaining (gs i) _ (joined_next gs W i h) (sym z ∙ step)
+      pub same_cut : {m' : List ℕ} → limit_reached m' ≡ run more (one (over (length m)) m q t b i) m → limit_reached m' ≡ run left (same_table G m0 q (table t) b t) m0
+      same_cut said = remaining_cut s.remaining (gs i) _ (joined_next gs W i h) (step said)
 
-        pub same_next : {l : Budget} {m' : List ℕ} → o ≡ all_made l m' → Same over q t b m0 left m' l (i + 1)
-        same_next {l} {m'} z =
-            let wrote : Put G m m' t i (l1_word G m q (table t) b i)
-            = put_changed G m (omega (arith, s.own.long, s.size)) t i (l1_word G m q (table t) b i) s.good.0 h m' (run_whole more (one G m q t b i) m l m' (sym here ∙ z)).1 in
-            record {
-              own = s.own;
-              few = omega arith;
-              size = wrote.size ∙ s.size;
-              ahead = λ j lo u. wrote.others t j s.good.0 u (λ x y. omega (arith, y)) ∙ s.ahead j (omega arith) u;
-              good = (
-                s.good.0,
-                λ j u. split (eqb j i)
-                    (λ y. let same : j ≡ i = eqb-true j i y in
-                    ap (λ (k : ℕ). clean G.layout (word_at G m' t k)) same ∙ ap (clean G.layout) wrote.here ∙ l1_clean G s.own.shape m q s.own.low (table t) s.good b i)
-                    (λ y. ap (clean G.layout) (wrote.others t j s.good.0 u (λ x. eqb-false j i y)) ∙ s.good.1 j u),
-              );
-              remaining = remaining_next s.remaining (gs i) _ (joined_next gs W i h) (sym z ∙ step);
-            }
+      pub same_next : {l : Budget} {m' : List ℕ} → all_made l m' ≡ run more (one (over (length m)) m q t b i) m → Same over q t b m0 left m' l (i + 1)
+      same_next {l} {m'} said =
+          let wrote : Put G m m' t i (l1_word G m q (table t) b i)
+          = put_changed G m (omega (arith, s.own.long, s.size)) t i (l1_word G m q (table t) b i) s.good.0 h m' (run_whole more (one G m q t b i) m l m' (sym (here said))).1 in
+          record {
+            own = s.own;
+            few = omega arith;
+            size = wrote.size ∙ s.size;
+            ahead = λ j lo u. wrote.others t j s.good.0 u (λ x y. omega (arith, y)) ∙ s.ahead j (omega arith) u;
+            good = (
+              s.good.0,
+              λ j u. split (eqb j i)
+                  (λ y. let same : j ≡ i = eqb-true j i y in
+                  ap (λ (k : ℕ). clean G.layout (word_at G m' t k)) same ∙ ap (clean G.layout) wrote.here ∙ l1_clean G s.own.shape m q s.own.low (table t) s.good b i)
+                  (λ y. ap (clean G.layout) (wrote.others t j s.good.0 u (λ x. eqb-false j i y)) ∙ s.good.1 j u),
+            );
+            remaining = remaining_next s.remaining (gs i) _ (joined_next gs W i h) (step said);
+          }

@@ -1,8 +1,8 @@
 -- A row of neighbouring words: a store of one of them keeps the others, so that those before place i are done and those from there on stand
 -- as they were; and a row that changes throughout is stored whole.
-use Rattle.std.specs.Prelude.{if◌then◌else◌}
+use Rattle.std.specs.Prelude.{if◌then◌else◌, Option, Some, None}
 use mathlib.Core.Path.{◌≡◌, refl, sym, ap, ap₂, ◌∙◌, subst}
-use mathlib.Core.Bool.{Bool, true, false}
+use mathlib.Core.Bool.{true}
 use mathlib.Core.List.{List, [], ◌∷◌, ◌++◌, append-nil}
 use Prim.Native.Nat.{ℕ, ◌+◌, ◌-◌, ◌≤◌, ◌<◌}
 use native.Mathlib.Omega.{arith}
@@ -65,34 +65,33 @@ module _ {to : ℕ → ℕ} {m0 : List ℕ} {left : Budget} {at : ℕ} {m : List
   pub row_ahead : (n : ℕ) → i < n → Ahead m0 (row_stores m0 to n at) → Ahead m (change_at m (λ x. w) (at + i))
   row_ahead n h a = ahead_of (sym change) (ahead_joined left (change_at m0 to) n at i h a s.done)
 
-  module _ {o : Out} (said : o ≡ run more (change_at m (λ x. w) (at + i)) m) where
-    step : o ≡ run more (change_at m0 to (at + i)) m
-    step = said ∙ ap (λ (ss : List Store). run more ss m) change
+  -- it is made
+  step : {o : Out} → o ≡ run more (change_at m (λ x. w) (at + i)) m → o ≡ run more (change_at m0 to (at + i)) m
+  step said = said ∙ ap (λ (ss : List Store). run more ss m) change
 
-    one_longer : row_stores m0 to (i + 1) at ≡ row_stores m0 to i at ++ change_at m0 to (at + i)
-    unfolding joined
-    one_longer = joined_append (change_at m0 to) i 1 at ∙ ap (λ (l : List Store). row_stores m0 to i at ++ l) (append-nil (change_at m0 to (at + i)))
+  one_longer : row_stores m0 to (i + 1) at ≡ row_stores m0 to i at ++ change_at m0 to (at + i)
+  unfolding joined
+  one_longer = joined_append (change_at m0 to) i 1 at ∙ ap (λ (l : List Store). row_stores m0 to i at ++ l) (append-nil (change_at m0 to (at + i)))
 
-    pub row_said : o ≡ run left (row_stores m0 to (i + 1) at) m0
-    row_said = sym (ap (λ (l : List Store). run left l m0) one_longer ∙ run_on left (row_stores m0 to i at) m0 s.done (change_at m0 to (at + i)) ∙ sym step)
+  pub row_said : {o : Out} → o ≡ run more (change_at m (λ x. w) (at + i)) m → o ≡ run left (row_stores m0 to (i + 1) at) m0
+  row_said said = sym (ap (λ (l : List Store). run left l m0) one_longer ∙ run_on left (row_stores m0 to i at) m0 s.done (change_at m0 to (at + i)) ∙ sym (step said))
 
-    pub row_next : {l : Budget} {m' : List ℕ} → o ≡ all_made l m' → InRow to m0 left at m' l (i + 1)
-    row_next {l} {m'} z =
-        let wrote : m' ≡ apply (change_at m0 to (at + i)) m = (run_whole more (change_at m0 to (at + i)) m l m' (sym step ∙ z)).1 in
-        record {
-          size = ap (λ (x : List ℕ). length x) wrote ∙ change_length m m0 to (at + i) ∙ s.size;
-          ahead = λ k lo. ap (λ (x : List ℕ). get_or x k 0) wrote ∙ change_other m m0 to (at + i) k (omega arith) ∙ s.ahead k (omega arith);
-          done = sym z ∙ row_said;
-        }
+  pub row_next : {l : Budget} {m' : List ℕ} → all_made l m' ≡ run more (change_at m (λ x. w) (at + i)) m → InRow to m0 left at m' l (i + 1)
+  row_next {l} {m'} said =
+      let wrote : m' ≡ apply (change_at m0 to (at + i)) m = (run_whole more (change_at m0 to (at + i)) m l m' (sym (step said))).1 in
+      record {
+        size = ap (λ (x : List ℕ). length x) wrote ∙ change_length m m0 to (at + i) ∙ s.size;
+        ahead = λ k lo. ap (λ (x : List ℕ). get_or x k 0) wrote ∙ change_other m m0 to (at + i) k (omega arith) ∙ s.ahead k (omega arith);
+        done = row_said said;
+      }
 
-    -- a row that is cut is cut whatever was to follow
-    pub row_cut : {m' : List ℕ} → o ≡ limit_reached m' → (n : ℕ) → i < n → o ≡ run left (row_stores m0 to n at) m0
-    row_cut z n h =
-        let u : n ≡ i + 1 + (n - (i + 1)) = omega arith in
-        z
-        ∙ sym (ap (λ (k : ℕ). run left (row_stores m0 to k at) m0) u
-        ∙ ap (λ (l : List Store). run left l m0) (joined_append (change_at m0 to) (i + 1) (n - (i + 1)) at)
-        ∙ run_off left (row_stores m0 to (i + 1) at) m0 (sym z ∙ row_said) (row_stores m0 to (n - (i + 1)) (at + (i + 1))))
+  -- a row that is cut is cut whatever was to follow
+  pub row_cut : {m' : List ℕ} → limit_reached m' ≡ run more (change_at m (λ x. w) (at + i)) m → (n : ℕ) → i < n → limit_reached m' ≡ run left (row_stores m0 to n at) m0
+  row_cut said n h =
+      let u : n ≡ i + 1 + (n - (i + 1)) = omega arith in
+      sym (ap (λ (k : ℕ). run left (row_stores m0 to k at) m0) u
+      ∙ ap (λ (l : List Store). run left l m0) (joined_append (change_at m0 to) (i + 1) (n - (i + 1)) at)
+      ∙ run_off left (row_stores m0 to (i + 1) at) m0 (row_said said) (row_stores m0 to (n - (i + 1)) (at + (i + 1))))
 
 -- ---- words that are all stored
 
@@ -122,10 +121,10 @@ module _ {word : ℕ} {m0 : List ℕ} {left : Budget} {at : ℕ} {m : List ℕ} 
       }
 
 -- a row of no entries changes nothing
-pub row_none : (to : ℕ → ℕ) (m0 : List ℕ) (left : Budget) (at n : ℕ) → n ≡ 0 → (all : Bool) (l : Budget) (m : List ℕ) → out all l m ≡ run left (row_stores m0 to n at) m0 → m ≡ m0
+pub row_none : (to : ℕ → ℕ) (m0 : List ℕ) (left : Budget) (at n : ℕ) → n ≡ 0 → (r : Option Budget) (m : List ℕ) → out r m ≡ run left (row_stores m0 to n at) m0 → m ≡ m0
 unfolding joined
-row_none to m0 left at n z all l m e = same all (e ∙ ap (λ (k : ℕ). run left (row_stores m0 to k at) m0) z ∙ run_none left m0)
+row_none to m0 left at n z r m e = same r (e ∙ ap (λ (k : ℕ). run left (row_stores m0 to k at) m0) z ∙ run_none left m0)
   where
-    same : (all : Bool) → out all l m ≡ all_made left m0 → m ≡ m0
-    same true y = cc
-    same false y = absurd (let x : ◌≡◌ {A = ℕ} 0 1 = cc in omega arith)
+    same : (r : Option Budget) → out r m ≡ all_made left m0 → m ≡ m0
+    same (Some l) y = cc
+    same None y = absurd (let x : ◌≡◌ {A = ℕ} 0 1 = cc in omega arith)

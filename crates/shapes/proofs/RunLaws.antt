@@ -1,16 +1,14 @@
 -- Making a list of stores up to a limit: a run of two lists is a run of the first and then one of the second, and a run comes to the first
 -- stores of its list, as many as the limit allows.
 use mathlib.Core.Path.{◌≡◌, refl, sym, ap, ◌∙◌}
-use mathlib.Core.Bool.{Bool, true, false, not}
 use mathlib.Core.List.{List, [], ◌∷◌, ◌++◌}
 use Prim.Native.Nat.{ℕ, zero, suc, ◌+◌, ◌-◌, ◌<◌}
 use native.Mathlib.Omega.{arith}
 use native.Mathlib.Numerals.{add-one}
 use lib.ListN.{length, take, set}
-use borrow.Author.Tests.{not-true, not-false}
+use Rattle.std.specs.Prelude.{Option, Some, None}
 use Rattle.shapes.specs.Run.{Out, all_made, limit_reached, out, and_then, run_from, run}
 use Rattle.types.specs.declared.Budget.{Budget}
-use Rattle.types.specs.declared.Progress.{Progress}
 use Rattle.model.specs.Numbers.{joined}
 use Rattle.model.specs.Stores.{Store, apply}
 
@@ -56,19 +54,11 @@ run_short left ss m n e = from_short left.more left.last ss m n e
 
 -- ---- what a function says of its stores: all were made, or the limit cut them
 
-pub out_whole : (all : Bool) (l : Budget) (n : List ℕ) → all ≡ true → out all l n ≡ all_made l n
-out_whole all l n z = ap (λ (b : Bool). out b l n) z
+pub out_whole : {r : Option Budget} {l : Budget} (n : List ℕ) → r ≡ Some l → out r n ≡ all_made l n
+out_whole n z = ap (λ (o : Option Budget). out o n) z
 
-pub out_cut : (all : Bool) (l : Budget) (n : List ℕ) → all ≡ false → out all l n ≡ limit_reached n
-out_cut all l n z = ap (λ (b : Bool). out b l n) z
-
--- the same from the code's test, which asks whether not all were made
-module _ (r : Progress) (n : List ℕ) where
-  pub progress_all : not r.all ≡ false → out r.all r.left n ≡ all_made r.left n
-  progress_all z = out_whole r.all r.left n (not-false r.all z)
-
-  pub progress_cut : not r.all ≡ true → out r.all r.left n ≡ limit_reached n
-  progress_cut z = out_cut r.all r.left n (not-true r.all z)
+pub out_cut : {r : Option Budget} (n : List ℕ) → r ≡ None → out r n ≡ limit_reached n
+out_cut n z = ap (λ (o : Option Budget). out o n) z
 
 -- ---- a list of stores that is joined from a run of lists
 

@@ -1,5 +1,5 @@
 -- A block and a range: pieces that an end of the range cuts, blocks of one GiB, pages that the whole edit takes.
-use Rattle.std.specs.Prelude.{◌≡◌, Bool, true, false, List, ℕ, ◌+◌, ◌*◌, ◌/◌, ◌%◌, ◌^◌, ◌≤◌, ◌<◌}
+use Rattle.std.specs.Prelude.{◌≡◌, Bool, true, false, List, ℕ, Option, ◌+◌, ◌*◌, ◌/◌, ◌%◌, ◌^◌, ◌≤◌, ◌<◌, Some, None}
 use Rattle.model.specs.Numbers.{digit}
 use Rattle.model.specs.Layout.{Layout, block_pages, gib_blocks, piece_pages}
 use Rattle.model.specs.Entry as entry
@@ -8,8 +8,6 @@ use Rattle.model.specs.Walk as walk
 use Rattle.model.specs.Forms as model
 use Rattle.model.specs.Stores as stores
 use Rattle.model.specs.Calls as calls
-use Rattle.types.specs.declared.Gib.{Gib}
-use Rattle.types.specs.declared.Piece.{Piece}
 use Rattle.shapes.specs.Rooted.{Rooted}
 
 -- before the edit each page of block b, whose entry is e, is of the permission that info has for its piece
@@ -27,30 +25,40 @@ Mixes L q b info at false = (i : ℕ) → i < L.pieces → b * block_pages + i *
 abbrev pub block_is : frame.Frame → List ℕ → model.Request → ℕ → ℕ → ℕ → Bool
 block_is F m q root p b = model.all_are F m q (walk.entry_at F m root b) p block_pages (b * block_pages)
 
--- what piece says is so of piece i of block b, whose entry is e
-abbrev pub PieceIs : frame.Frame → List ℕ → model.Request → entry.Entry → ℕ → ℕ → Piece → Type 0
-PieceIs F m q e b i piece =
-    (piece.p ≡ model.after_in F m q e (model.piece_start F b i)) × (piece.one ≡ model.all_are F m q e piece.p (piece_pages F.layout) (model.piece_start F b i)) × (piece.p < 4)
+-- the one permission that all pages of a piece or a GiB have, if they have one: whether they do, and which. Where they do not, 0 stands for it
+abbrev pub has_one : Option ℕ → Bool
+has_one (Some p) = true
+has_one None = false
+
+abbrev pub one_of : Option ℕ → ℕ
+one_of (Some p) = p
+one_of None = 0
+
+-- piece is the one permission of piece i of block b, whose entry is e, if it has one: that of its first page, if it is all the piece's
+abbrev pub PieceIs : frame.Frame → List ℕ → model.Request → entry.Entry → ℕ → ℕ → Option ℕ → Type 0
+PieceIs F m q e b i (Some p) = (p ≡ model.after_in F m q e (model.piece_start F b i)) × (model.all_are F m q e p (piece_pages F.layout) (model.piece_start F b i) ≡ true) × (p < 4)
+PieceIs F m q e b i None = model.all_are F m q e (model.after_in F m q e (model.piece_start F b i)) (piece_pages F.layout) (model.piece_start F b i) ≡ false
 
 -- ---- several blocks of one GiB, by what gib says of it
 
--- what gib says is so of GiB g
-abbrev pub GibIs : frame.Frame → List ℕ → model.Request → ℕ → ℕ → Gib → Type 0
-GibIs F m q root g gib = (gib.p ≡ model.gib_first F m q root g) × (gib.one ≡ model.gib_is_one F m q root g gib.p) × (gib.p < 4)
+-- gib is the one permission of GiB g, if it has one
+abbrev pub GibIs : frame.Frame → List ℕ → model.Request → ℕ → ℕ → Option ℕ → Type 0
+GibIs F m q root g (Some p) = (p ≡ model.gib_first F m q root g) × (model.gib_is_one F m q root g p ≡ true) × (p < 4)
+GibIs F m q root g None = model.gib_is_one F m q root g (model.gib_first F m q root g) ≡ false
 
 -- the finished form of block b
-abbrev pub form_in_gib : frame.Frame → List ℕ → model.Request → ℕ → Gib → ℕ → model.Form
-form_in_gib F m q root gib b = model.form_in F m q gib.one gib.p (walk.entry_at F m root b) b
+abbrev pub form_in_gib : frame.Frame → List ℕ → model.Request → ℕ → Option ℕ → ℕ → model.Form
+form_in_gib F m q root gib b = model.form_in F m q (has_one gib) (one_of gib) (walk.entry_at F m root b) b
 
 -- its stores; and those of n blocks from b, with the free pages in order, and how many new pages they take
-abbrev pub stores_in_gib : frame.Frame → List ℕ → model.Request → ℕ → Gib → ℕ → ℕ → List stores.Store
+abbrev pub stores_in_gib : frame.Frame → List ℕ → model.Request → ℕ → Option ℕ → ℕ → ℕ → List stores.Store
 stores_in_gib F m q root gib b new = stores.block_stores F m q root (form_in_gib F m q root gib b) (walk.entry_at F m root b) b new
 
-abbrev pub stores_over : frame.Frame → List ℕ → model.Request → ℕ → Gib → ℕ → ℕ → List ℕ → List stores.Store
-stores_over F m q root gib n b free = stores.stores_from F m q root b (model.forms_in F m q root gib.one gib.p n b) free
+abbrev pub stores_over : frame.Frame → List ℕ → model.Request → ℕ → Option ℕ → ℕ → ℕ → List ℕ → List stores.Store
+stores_over F m q root gib n b free = stores.stores_from F m q root b (model.forms_in F m q root (has_one gib) (one_of gib) n b) free
 
-abbrev pub pages_over : frame.Frame → List ℕ → model.Request → ℕ → Gib → ℕ → ℕ → ℕ
-pages_over F m q root gib n b = stores.new_pages F m root b (model.forms_in F m q root gib.one gib.p n b)
+abbrev pub pages_over : frame.Frame → List ℕ → model.Request → ℕ → Option ℕ → ℕ → ℕ → ℕ
+pages_over F m q root gib n b = stores.new_pages F m root b (model.forms_in F m q root (has_one gib) (one_of gib) n b)
 
 -- a form whose entry fits a word
 abbrev pub Encodes : Layout → model.Form → Type 0

@@ -1,5 +1,5 @@
 -- Making a list of stores, as many as are left: what the functions that store say by their result and the memory.
-use Rattle.std.specs.Prelude.{Bool, true, false, List, [], ◌∷◌, ℕ, zero, suc, set}
+use Rattle.std.specs.Prelude.{Option, List, [], ◌∷◌, ℕ, zero, suc, set, Some, None}
 use Rattle.model.specs.Stores.{Store}
 use Rattle.types.specs.declared.Budget.{Budget}
 
@@ -8,9 +8,9 @@ pub data Out : Type 0 where
   all_made : Budget → List ℕ → Out
   limit_reached : List ℕ → Out
 
-abbrev pub out : Bool → Budget → List ℕ → Out
-out true left m = all_made left m
-out false left m = limit_reached m
+abbrev pub out : Option Budget → List ℕ → Out
+out (Some left) m = all_made left m
+out None m = limit_reached m
 
 abbrev pub and_then : Out → (Budget → List ℕ → Out) → Out
 and_then (all_made left m) next = next left m

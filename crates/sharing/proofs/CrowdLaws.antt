@@ -7,8 +7,9 @@ use lib.Pow.{pow-add}
 use native.Mathlib.Nat.{add-zero}
 use native.Mathlib.Omega.{arith}
 use lib.Dec.{leb}
-use lib.ListN.{replicate}
-use Rattle.model.specs.Layout.{slot_count, block_pages, piece_pages}
+use lib.ListN.{length, get_or, replicate, take}
+use Rattle.std.proofs.lemmas.List.{length-take-le, get_or-take}
+use Rattle.model.specs.Layout.{Layout, slot_count, block_pages, piece_pages}
 use Rattle.model.specs.Register.{ppn_of}
 use Rattle.model.specs.Entry.{Entry, Found, perm}
 use Rattle.model.specs.Frame.{Frame, blocks, space, frame_ok}
@@ -18,7 +19,7 @@ use Rattle.model.specs.Sound.{Slot, register, is_open, roots, sound}
 use Rattle.model.specs.Calls.{slot_at}
 use Rattle.model.specs.Apart.{Strength, strict, sharing, grants, grants_any, opens, writes, reaches, by_slot}
 use Rattle.laws.proofs.Choices.{split}
-use Rattle.laws.proofs.Sums.{sum, sum_last}
+use Rattle.laws.proofs.Sums.{sum, sum_cong, sum_last}
 use Rattle.theory.proofs.Entries.{Lawful}
 use Rattle.theory.proofs.Frames.{frame_ok_lem}
 use Rattle.theory.proofs.TablePages.{sounds}
@@ -28,7 +29,7 @@ use Rattle.types.specs.declared.Masks.{Masks}
 use Rattle.types.specs.declared.Shares.{Shares}
 use Rattle.shapes.specs.Rooted.{Good}
 use Rattle.shapes.proofs.SoundRoots.{sound_rooted}
-use Rattle.sharing.specs.Masks.{open_bit, one, Counted}
+use Rattle.sharing.specs.Masks.{open_bit, reach_bit, one, Counted}
 use Rattle.sharing.specs.Crowds.{is_crowd, reach_of, entry_of_slot, BlockOf, AllRooted, open_count, reach_count, crowded, entry_for, full_at, Gathered, GatheredAll, entry_opens, entry_reaches}
 
 module _ (F : Frame) (m : List ℕ) where
@@ -114,6 +115,15 @@ unfolding space blocks
 blocks_space F l =
     let e : F.paw - 12 ≡ F.paw - 25 + 13 = omega arith in
     ap (λ (k : ℕ). 2 ^ k) e ∙ pow-add 2 (F.paw - 25) 13
+
+-- the first count of some L1 pages say the same as a list of their own
+pub full_first : (L : Layout) (m tables : List ℕ) (s : Strength) (count c d q : ℕ) → count ≤ length tables
+    → full_at L m (take count tables) s (length (take count tables)) c d q ≡ full_at L m tables s count c d q
+full_first L m tables s count c d q few =
+    let same : (g : ℕ → Bool) → sum (λ t. one (g (entry_for L m (take count tables) t q))) count 0 ≡ sum (λ t. one (g (entry_for L m tables t q))) count 0
+    = λ g. sum_cong _ _ count 0 (λ k lo hi. ap (λ (x : ℕ). one (g (get_or m (x + q / L.fields) 0))) (get_or-take count tables k 0 (omega arith))) in
+    ap (λ (n : ℕ). full_at L m (take count tables) s n c d q) (length-take-le count tables few)
+    ∙ ap₂ (λ (x y : ℕ). is_crowd (c + x) (d + y)) (same (λ w. open_bit w (4 * (q % L.fields)))) (same (λ w. reach_bit s w (4 * (q % L.fields))))
 
 -- a page is crowded as what was gathered of its block says
 module _ (F : Frame) (m : List ℕ) (slots : List Slot) (s : Strength) (b : ℕ) (r : Shares) (h : GatheredAll F m s slots b slot_count r) where

@@ -1,4 +1,5 @@
 -- The lowest page at fault, as a table page or as one that two slots share, is what is answered.
+use Rattle.std.specs.Prelude.{Option, Some, None}
 use mathlib.Core.Path.{◌≡◌, sym, ap, ap₂, ◌∙◌}
 use mathlib.Core.Bool.{true}
 use mathlib.Core.List.{List, [], ◌++◌, head_d}
@@ -7,12 +8,13 @@ use native.Mathlib.Nat.{zero-add}
 use native.Mathlib.Omega.{arith}
 use Rattle.model.specs.Frame.{Frame, space}
 use Rattle.model.specs.Sound.{Slot}
-use Rattle.model.specs.Apart.{Strength, Separation, apart, faults_at, separation}
+use Rattle.model.specs.Apart.{Strength, Separation, apart, table_page, faults_at, separation}
 use Rattle.laws.proofs.Lists.{joined_none}
-use Rattle.sharing.specs.First.{First}
+use Rattle.sharing.specs.First.{First, FirstOf}
 use Rattle.sharing.specs.Crowds.{crowded}
 use Rattle.sharing.specs.Faults.{some, table_faults, pair_faults}
 use Rattle.sharing.proofs.FaultLists.{none_some, head_of, joined_head}
+use Rattle.sharing.proofs.TableFaults.{lowest_table}
 use Rattle.sharing.proofs.PairFaults.{pairs_crowd}
 
 module _ (F : Frame) (m : List ℕ) (slots : List Slot) (s : Strength) (table shared : ℕ)
@@ -58,3 +60,24 @@ module _ (F : Frame) (m : List ℕ) (slots : List Slot) (s : Strength) (table sh
   pub answer_apart : table ≤ shared → space F ≤ table → separation F m slots s ≡ apart
   unfolding separation head_d
   answer_apart l u = ap (λ (x : List Separation). head_d x apart) (joined_none (faults_at F m slots s) (space F) 0 (λ k lo hi. no_fault k (omega arith) (omega arith)))
+
+-- the two lowest pages, each if there is one
+module _ (F : Frame) (m : List ℕ) (slots : List Slot) (s : Strength) where
+  abbrev pub Told : Option ℕ → Option ℕ → Type 0
+  Told None None = separation F m slots s ≡ apart
+  Told None (Some p) = separation F m slots s ≡ head_d (pair_faults F m slots s p) apart
+  Told (Some t) None = (table_page F m slots t ≡ true) × (separation F m slots s ≡ head_d (table_faults F m slots s t) apart)
+  Told (Some t) (Some p) =
+      (table_page F m slots t ≡ true)
+      × (p < t → separation F m slots s ≡ head_d (pair_faults F m slots s p) apart)
+      × (t ≤ p → separation F m slots s ≡ head_d (table_faults F m slots s t) apart)
+
+  pub told : (table shared : Option ℕ) → FirstOf (λ page. some (table_faults F m slots s page)) 0 (space F) table → FirstOf (crowded F m slots s) 0 (space F) shared → Told table shared
+  told None None byTable byPair = answer_apart F m slots s (space F) (space F) byTable byPair (omega arith) (omega arith)
+  told None (Some p) byTable byPair = answer_shared F m slots s (space F) p byTable byPair.1 byPair.0
+  told (Some t) None byTable byPair = (lowest_table F m slots s (space F) t byTable, answer_table F m slots s t (space F) byTable.1 byPair byTable.1.within byTable.0)
+  told (Some t) (Some p) byTable byPair = (
+    lowest_table F m slots s (space F) t byTable,
+    answer_shared F m slots s t p byTable.1 byPair.1,
+    λ l. answer_table F m slots s t p byTable.1 byPair.1 l byTable.0,
+  )

@@ -140,14 +140,16 @@ module _ (F : Frame) (m : List ℕ) (slots : List Slot) (s : Strength) (page : �
   unfolding pair_fault
   pair_head i j h = head_if (ltb i j && both_ways F m slots s page i j) _ h ∙ ap₂ (λ (a b : Bool). page_shared page i j (a || b)) (slot_writes F m slots i page) (slot_writes F m slots j page)
 
-  module _ (i j : ℕ) (first : First (λ k. some (pair_fault F m slots s page i k)) 0 slot_count j) where
-    pub row_some : j < slot_count → (some (row i) ≡ true) × (head_d (row i) apart ≡ page_shared page i j (may_write i || may_write j))
-    row_some u =
-        let head = joined_head (pair_fault F m slots s page i) slot_count j first u apart in
-        (head.0, head.1 ∙ pair_head i j (ap (λ (k : ℕ). some (pair_fault F m slots s page i k)) (sym (zero-add j)) ∙ first.passes u))
+  abbrev partner : ℕ → ℕ → Bool
+  partner i k = some (pair_fault F m slots s page i k)
 
-    pub row_none : slot_count ≤ j → some (row i) ≡ false
-    row_none u = ap some (joined_rest (pair_fault F m slots s page i) slot_count j first u)
+  pub row_some : (i j : ℕ) → j < slot_count → First (partner i) 0 slot_count j → (some (row i) ≡ true) × (head_d (row i) apart ≡ page_shared page i j (may_write i || may_write j))
+  row_some i j u first =
+      let head = joined_head (pair_fault F m slots s page i) slot_count j first u apart in
+      (head.0, head.1 ∙ pair_head i j (ap (partner i) (sym (zero-add j)) ∙ first.passes u))
+
+  pub row_none : (i : ℕ) → First (partner i) 0 slot_count slot_count → some (row i) ≡ false
+  row_none i first = ap some (joined_rest (pair_fault F m slots s page i) slot_count slot_count first (omega arith))
 
   pub rows_head : (i : ℕ) → First (λ k. some (row k)) 0 slot_count i → i < slot_count → head_d (pair_faults F m slots s page) apart ≡ head_d (row i) apart
   rows_head i first u = (joined_head row slot_count i first u apart).1

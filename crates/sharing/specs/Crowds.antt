@@ -1,5 +1,5 @@
 -- How many slots have a page open, and how many reach it.
-use Rattle.std.specs.Prelude.{◌≡◌, Bool, true, ◌&&◌, List, ℕ, ◌+◌, ◌*◌, ◌/◌, ◌%◌, ◌≤◌, ◌<◌, leb, length, get_or, if◌then◌else◌}
+use Rattle.std.specs.Prelude.{◌≡◌, Bool, true, ◌&&◌, List, ℕ, Option, ◌+◌, ◌*◌, ◌/◌, ◌%◌, ◌≤◌, ◌<◌, leb, length, get_or, if◌then◌else◌, Some, None}
 use Rattle.model.specs.Layout.{Layout, slot_count, block_pages, piece_pages}
 use Rattle.model.specs.Register.{ppn_of}
 use Rattle.model.specs.Entry.{Entry, flat, pieces, table, invalid, Found}
@@ -10,7 +10,6 @@ use Rattle.model.specs.Calls.{slot_at}
 use Rattle.model.specs.Access.{write}
 use Rattle.model.specs.Apart.{Strength, strict, sharing, grants_any, grants, opens, reaches, by_slot}
 use Rattle.laws.proofs.Sums.{sum}
-use Rattle.types.specs.declared.L1Start.{L1Start}
 use Rattle.types.specs.declared.Shares.{Shares}
 use Rattle.shapes.specs.Rooted.{Rooted}
 use Rattle.shapes.specs.Words.{flat_info}
@@ -36,12 +35,12 @@ info_by L (pieces info) = info
 info_by L (table t) = 0
 info_by L invalid = 0
 
--- where the words of the L1 page begin that an entry names
-abbrev pub StartBy : Frame → List ℕ → Entry → L1Start → Type 0
-StartBy F m (flat p) r = r.count ≡ 0
-StartBy F m (pieces info) r = r.count ≡ 0
-StartBy F m (table t) r = (r.count ≡ 1) × (r.at ≡ index_of F t 0) × (r.at + F.layout.words ≤ length m)
-StartBy F m invalid r = r.count ≡ 0
+-- where the words of the L1 page begin that an entry names, if it names one
+abbrev pub StartBy : Frame → List ℕ → Entry → Option ℕ → Type 0
+StartBy F m (flat p) r = r ≡ None
+StartBy F m (pieces info) r = r ≡ None
+StartBy F m (table t) r = (r ≡ Some (index_of F t 0)) × (index_of F t 0 + F.layout.words ≤ length m)
+StartBy F m invalid r = r ≡ None
 
 -- a block of the address space: it has an entry, and its pages are all inside
 abbrev pub BlockOf : Frame → ℕ → Type 0

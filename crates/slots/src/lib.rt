@@ -8,34 +8,42 @@ mod zero;
 ghost use Rattle.std.specs.Prelude.{◌≡◌, true, ◌<◌};
 ghost use Rattle.model.specs.Frame as frame;
 ghost use Rattle.model.specs.Calls as calls;
-ghost use Rattle.scan.specs.Admission.{Admitted};
-ghost use Rattle.slots.specs.Outcomes.{outcome_of, refused_outcome, closed_at};
+ghost use Rattle.slots.specs.Outcomes.{outcome_of, refused_outcome, answered, closed_at};
 ghost use Rattle.table.specs.Board.{frame_of};
 
 use crate::named::{bad_sdid, not_empty, not_open};
 use crate::zero::zero_page;
-use marks::{Marks, no_marks};
 use sound::admit;
 use sound::pick::free_pages;
 use table::board::Word;
 use table::{lent, register};
-use types::{Admission, Fence, Frame, PageNumber, Refusal, Reply, Sdid};
+use types::{Fence, Frame, PageNumber, Refusal, Reply, Sdid};
 
 // What a call leaves, beside the lent memory.
 #[derive(Clone, Copy)]
 pub struct Outcome {
-    pub reply: Reply,
+    pub reply: Result<Reply, Refusal>,
     pub slots: [Word; 8],
     pub fence: Fence,
 }
 
-pub fn refused(why: Refusal, slots: [Word; 8]) -> Outcome
+fn refused(why: Refusal, slots: [Word; 8]) -> Outcome
     ensures { result ≡ refused_outcome why slots }
 {
     Outcome {
-        reply: Reply::Refused(why),
-        slots: slots,
+        reply: Err(why),
+        slots,
         fence: Fence::Nothing,
+    }
+}
+
+// The answer of a call that came to an outcome, or was refused.
+pub fn answer(done: Result<Outcome, Refusal>, slots: [Word; 8]) -> Outcome
+    ensures { result ≡ answered slots done }
+{
+    match done {
+        Ok(outcome) => outcome,
+        Err(why) => refused(why, slots),
     }
 }
 
@@ -55,46 +63,40 @@ fn open_at(
     let mut after = slots;
     after[slot as usize] = register::new(sdid, root);
     Outcome {
-        reply: Reply::Opened,
+        reply: Ok(Reply::Opened),
         slots: after,
         fence: Fence::Nothing,
     }
 }
 
-// Opening a slot of a sound table, whose marks are at hand. Refusals 4, 8, 7, in this order, and then the change.
-fn open_admitted(
+// Opening a slot, or the refusal that fits first: 1, 3, 4, 8, 7, in this order.
+fn open_slot(
     f: Frame,
     words: &mut [Word],
     slots: [Word; 8],
     slot: u64,
     sdid: Sdid,
-    marks: &Marks,
-) -> Outcome
-    requires { Admitted (frame_of f words.old) words.old slots marks.now }
-    ensures { outcome_of result words.new ≡ calls.open_slot (frame_of f words.old) words.old slots slot sdid.0 }
+) -> Result<Outcome, Refusal>
+    ensures { outcome_of (answered slots result) words.new ≡ calls.open_slot (frame_of f words.old) words.old slots slot sdid.0 }
 {
+    let marks = admit(f, words, slots)?;
     if not_empty(slots, slot) {
-        return refused(Refusal::Slot, slots);
+        return Err(Refusal::Slot);
     }
     if bad_sdid(slots, sdid) {
-        return refused(Refusal::Sdid, slots);
+        return Err(Refusal::Sdid);
     }
-    let free = free_pages(f, words.len(), marks);
-    if free.count == 0 {
-        return refused(Refusal::NoRoom, slots);
-    }
-    open_at(f, words, slots, slot, sdid, free.first)
+    let Some(root) = free_pages(f, words.len(), &marks).first else {
+        return Err(Refusal::NoRoom);
+    };
+    Ok(open_at(f, words, slots, slot, sdid, root))
 }
 
-// "Opening an empty slot with an SDID takes the lowest free page, zeroes it and sets the register". Refusals 1, 3 here, and then as above.
+// "Opening an empty slot with an SDID takes the lowest free page, zeroes it and sets the register".
 pub fn open(f: Frame, words: &mut [Word], slots: [Word; 8], slot: u64, sdid: Sdid) -> Outcome
     ensures { outcome_of result words.new ≡ calls.open_slot (frame_of f words.old) words.old slots slot sdid.0 }
 {
-    let mut marks = no_marks();
-    match admit(f, words, slots, &mut marks) {
-        Admission::Refused(why) => refused(why, slots),
-        Admission::Granted => open_admitted(f, words, slots, slot, sdid, &marks),
-    }
+    answer(open_slot(f, words, slots, slot, sdid), slots)
 }
 
 // The change of a close that no refusal fits.
@@ -107,24 +109,26 @@ fn close_at(slots: [Word; 8], slot: u64) -> Outcome
     let mut after = slots;
     after[at] = 0;
     Outcome {
-        reply: Reply::Closed,
+        reply: Ok(Reply::Closed),
         slots: after,
         fence: Fence::Domain(sdid),
     }
 }
 
-// "Closing empties the slot, writes no byte and asks for a domain fence." Refusals 1, 3, 4, in this order.
+// Closing a slot, or the refusal that fits first: 1, 3, 4, in this order.
+fn close_slot(f: Frame, words: &[Word], slots: [Word; 8], slot: u64) -> Result<Outcome, Refusal>
+    ensures { outcome_of (answered slots result) words.now ≡ calls.close_slot (frame_of f words.now) words.now slots slot }
+{
+    admit(f, words, slots)?;
+    if not_open(slots, slot) {
+        return Err(Refusal::Slot);
+    }
+    Ok(close_at(slots, slot))
+}
+
+// "Closing empties the slot, writes no byte and asks for a domain fence."
 pub fn close(f: Frame, words: &[Word], slots: [Word; 8], slot: u64) -> Outcome
     ensures { outcome_of result words.now ≡ calls.close_slot (frame_of f words.now) words.now slots slot }
 {
-    let mut marks = no_marks();
-    match admit(f, words, slots, &mut marks) {
-        Admission::Refused(why) => refused(why, slots),
-        Admission::Granted => {
-            if not_open(slots, slot) {
-                return refused(Refusal::Slot, slots);
-            }
-            close_at(slots, slot)
-        }
-    }
+    answer(close_slot(f, words, slots, slot), slots)
 }

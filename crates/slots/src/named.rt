@@ -24,7 +24,7 @@ pub fn not_open(slots: [Word; 8], slot: u64) -> bool
     slots[at] == 0
 }
 
-// "slot above 7; .. in use for open"
+// "slot above 7; .. in use for open". This is not `!not_open`: a slot above 7 is neither.
 pub fn not_empty(slots: [Word; 8], slot: u64) -> bool
     ensures { result ≡ spec.not_empty slots slot }
 {
@@ -48,8 +48,8 @@ fn holds(slot: Word, sdid: Sdid) -> bool
 fn held(slots: [Word; 8], sdid: Sdid) -> bool
     ensures { result ≡ member sdid.0 (spec.open_sdids board slots) }
 {
-    for i in 0..8usize {
-        if holds(slots[i], sdid) {
+    for slot in slots {
+        if holds(slot, sdid) {
             return true;
         }
     }

@@ -4,7 +4,7 @@
 
 pub mod pick;
 
-ghost use Rattle.std.specs.Prelude.{◌≡◌, true, ◌+◌, ◌-◌, ◌%◌, ◌≤◌, ◌<◌, length, get_or};
+ghost use Rattle.std.specs.Prelude.{◌≡◌, true, ◌+◌, ◌-◌, ◌%◌, ◌≤◌, length, get_or};
 ghost use Rattle.model.specs.Numbers.{every};
 ghost use Rattle.model.specs.Entry as entry;
 ghost use Rattle.model.specs.Frame.{bounds_ok};
@@ -12,28 +12,35 @@ ghost use Rattle.model.specs.Layout.{gib_blocks};
 ghost use Rattle.table.specs.Board.{board, frame_over, frame_of};
 ghost use Rattle.types.specs.Views.{entry_of};
 ghost use Rattle.scan.specs.Admission.{AdmissionIs};
-ghost use Rattle.scan.specs.Scan.{flat_word, scanned, scan_all, scan_run, claim_of, link_step, entry_step, word_step, root_step, slot_step, register_step};
+ghost use Rattle.scan.specs.Scan.{GatheredBy, flat_word, scanned, scan_all, scan_run, claim_of, link_step, entry_step, word_step, root_step, slot_step, register_step};
 
 use marks::{Marks, all_marks, take};
 use table::board::{PAGE_WORDS, RESERVED, TYPE_UNIT, Word, wide};
 use table::word::PERMISSIONS;
 use table::{lent, register, word};
 use types::pages::GIB_BLOCKS;
-use types::{Admission, Entry, Frame, PageNumber, Refusal};
+use types::{Entry, Frame, PageNumber, Refusal};
 
 // The entries of a GiB, one word each.
 const GIB_WORDS: usize = GIB_BLOCKS as usize;
 
-// "all reserved bits in it are zero": the words are gathered by `|` and tested once.
+// Some words, gathered by `|`, so that one test tells of all.
+fn gathered(words: &[Word]) -> u64
+    ensures { GatheredBy words.now result }
+{
+    let mut all: u64 = 0;
+    for &word in words {
+        all |= wide(word);
+    }
+    all
+}
+
+// "all reserved bits in it are zero".
 fn clean(words: &[Word], at: usize) -> bool
     requires { at + board.words ≤ length words.now }
     ensures { result ≡ every (λ i. entry.clean board (get_or words.now (at + i) 0)) board.words 0 }
 {
-    let mut all: u64 = 0;
-    for i in 0..PAGE_WORDS {
-        all |= wide(words[at + i]);
-    }
-    all & RESERVED == 0
+    gathered(&words[at..at + PAGE_WORDS]) & RESERVED == 0
 }
 
 // A page is lent and was not met before: then it loses its mark.
@@ -75,8 +82,8 @@ fn entries(f: Frame, words: &[Word], start: usize, end: usize, free: &mut Marks)
     requires { (bounds_ok (frame_of f words.now) ≡ true) × (start ≤ end) × (end ≤ length words.now) }
     ensures { scanned result free.new ≡ scan_run (word_step (frame_of f words.now) words.now start) free.old (end - start) 0 }
 {
-    for i in start..end {
-        if !entry(f, words, word::decode(words[i]), free) {
+    for &word in &words[start..end] {
+        if !entry(f, words, word::decode(word), free) {
             return false;
         }
     }
@@ -93,7 +100,7 @@ fn is_flat(bits: u64) -> bool
     false
 }
 
-// All entries of a GiB are of the "1G" types, which name no page: they are gathered and tested once. In the finished form all are, or not even the
+// All entries of a GiB are of the "1G" types, which name no page. In the finished form all are, or not even the
 // first.
 fn all_flat(words: &[Word], at: usize) -> bool
     requires { at + gib_blocks ≤ length words.now }
@@ -102,11 +109,7 @@ fn all_flat(words: &[Word], at: usize) -> bool
     if !is_flat(wide(words[at])) {
         return false;
     }
-    let mut all: u64 = 0;
-    for i in 0..GIB_WORDS {
-        all |= wide(words[at + i]);
-    }
-    is_flat(all)
+    is_flat(gathered(&words[at..at + GIB_WORDS]))
 }
 
 // The entries of the GiB that begins at word at: one by one, where they are not all of the "1G" types.
@@ -120,21 +123,17 @@ fn gib(f: Frame, words: &[Word], at: usize, free: &mut Marks) -> bool
     entries(f, words, at, at + GIB_WORDS, free)
 }
 
-// The same for whole GiBs. There is one at the least, so the loop needs no test before its first turn.
+// The same for whole GiBs.
 fn gibs(f: Frame, words: &[Word], start: usize, end: usize, free: &mut Marks) -> bool
-    requires { (bounds_ok (frame_of f words.now) ≡ true) × (start < end) × ((end - start) % gib_blocks ≡ 0) × (end ≤ length words.now) }
+    requires { (bounds_ok (frame_of f words.now) ≡ true) × ((end - start) % gib_blocks ≡ 0) × (end ≤ length words.now) }
     ensures { scanned result free.new ≡ scan_run (word_step (frame_of f words.now) words.now start) free.old (end - start) 0 }
 {
-    let mut at = start;
-    loop {
+    for at in (start..end).step_by(GIB_WORDS) {
         if !gib(f, words, at, free) {
             return false;
         }
-        at += GIB_WORDS;
-        if at == end {
-            return true;
-        }
     }
+    true
 }
 
 // A root: the page itself, then "The first 2^(PAW-25) entries of each root"; "the rest of the page is never read".
@@ -164,8 +163,8 @@ fn tables(f: Frame, words: &[Word], slots: [Word; 8], free: &mut Marks) -> bool
     requires { bounds_ok (frame_of f words.now) ≡ true }
     ensures { scanned result free.new ≡ scan_all (slot_step (frame_of f words.now) words.now) free.old slots }
 {
-    for i in 0..8usize {
-        if !slot(f, words, slots[i], free) {
+    for r in slots {
+        if !slot(f, words, r, free) {
             return false;
         }
     }
@@ -188,11 +187,12 @@ fn register(r: Word, sdids: &mut Marks) -> bool
     take(sdids, register::sdid(r).0 as usize)
 }
 
+// A loop of its own beside that of `tables`: one for both would take what it does from a closure over marks that change, and be no shorter.
 fn registers(slots: [Word; 8], sdids: &mut Marks) -> bool
     ensures { scanned result sdids.new ≡ scan_all (register_step board) sdids.old slots }
 {
-    for i in 0..8usize {
-        if !register(slots[i], sdids) {
+    for r in slots {
+        if !register(r, sdids) {
             return false;
         }
     }
@@ -200,20 +200,20 @@ fn registers(slots: [Word; 8], sdids: &mut Marks) -> bool
 }
 
 // What each call but a lookup asks first: "frame breaks its bounds", and then "table not sound", the registers of the open slots before
-// their tables. If neither fits, each lent page is marked exactly when it is free, whatever marks the caller lent.
-pub fn admit(f: Frame, words: &[Word], slots: [Word; 8], free: &mut Marks) -> Admission
-    ensures { AdmissionIs (frame_of f words.now) words.now slots result free.new }
+// their tables. If neither fits, the answer marks each lent page exactly when it is free.
+pub fn admit(f: Frame, words: &[Word], slots: [Word; 8]) -> Result<Marks, Refusal>
+    ensures { AdmissionIs (frame_of f words.now) words.now slots result }
 {
     if !lent::frame_ok(f, words) {
-        return Admission::Refused(Refusal::Frame);
+        return Err(Refusal::Frame);
     }
     let mut sdids = all_marks();
     if !registers(slots, &mut sdids) {
-        return Admission::Refused(Refusal::NotSound);
+        return Err(Refusal::NotSound);
     }
-    *free = all_marks();
-    if !tables(f, words, slots, free) {
-        return Admission::Refused(Refusal::NotSound);
+    let mut free = all_marks();
+    if !tables(f, words, slots, &mut free) {
+        return Err(Refusal::NotSound);
     }
-    Admission::Granted
+    Ok(free)
 }

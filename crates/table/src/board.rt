@@ -15,8 +15,6 @@ pub const PIECES: u64 = 16;
 
 pub const PIECE_PAGES: u64 = 512;
 
-pub const LAST_PIECE: u64 = PIECES - 1;
-
 // Entries and bytes of a piece.
 pub const PIECE_WORDS: u64 = PAGE_WORDS as u64 / PIECES;
 

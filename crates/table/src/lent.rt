@@ -1,4 +1,7 @@
-// The frame: its bounds, which pages are lent, and where their words stand.
+// The frame: its bounds, which pages are lent, and where their words stand. A frame and the words beside it are two parameters everywhere, and no
+// struct with a reference in it: in a clause that is a pair of moments, and what is `frame_of f words.now` would be
+// `frame_of table.entry.f table.entry.words.now`. That a frame keeps its bounds (`bounds_ok`) is a fact of it beside the number of those words, and
+// stands in the clauses with them.
 ghost use Rattle.std.specs.Prelude.{◌≡◌, true, ◌+◌, ◌-◌, ◌≤◌, ◌^◌, length};
 ghost use Rattle.model.specs.Frame as frame;
 ghost use Rattle.table.specs.Board.{board, MAX-BLOCKS, frame_of, frame_over};

@@ -8,7 +8,7 @@ ghost use Rattle.table.specs.Bounds.{Small};
 
 use crate::board::{PIECE_INFO, PIECE_TYPE, RESERVED, TABLE_TYPE, TYPE_UNIT, Word};
 use types::rights::permission_of;
-use types::{Entry, Found, PageNumber};
+use types::{Entry, PageNumber, Permission};
 
 // The "four-bit fields" and "two-bit permissions", the same on every board.
 pub const FIELD_BITS: u64 = 4;
@@ -60,13 +60,13 @@ fn field(word: Word, i: u64) -> u64
 }
 
 // What field i of an L1 entry says: its permission, or a fault where a reserved bit is set in any field of the entry.
-pub fn field_found(word: Word, i: u64) -> Found
+pub fn field_found(word: Word, i: u64) -> Option<Permission>
     requires { i < board.fields }
     ensures { found_of result ≡ entry.field_of board word i }
 {
     let bits = field(word, i);
     if word as u64 & RESERVED == 0 {
-        return Found::Grant(permission_of(bits % PERMISSIONS));
+        return Some(permission_of(bits % PERMISSIONS));
     }
-    Found::Fault
+    None
 }

@@ -1,19 +1,10 @@
 -- Numbers for what crosses to C: what is asked by code, and what is answered, each in one word of 64 bits.
-use Rattle.std.specs.Prelude.{ℕ, ◌+◌, ◌*◌, ◌%◌, ◌^◌, eqb, if◌then◌else◌}
+use Rattle.std.specs.Prelude.{ℕ, Result, ◌+◌, ◌*◌, ◌%◌, ◌^◌, eqb, if◌then◌else◌, Ok, Err}
 use Rattle.model.specs.Access.{fetch, load, store, Kind, itself, table_read, update, Answer, refused, allowed, fault}
 use Rattle.model.specs.Lookup.{Privilege, machine, supervisor, user}
 use Rattle.model.specs.Fence.{Fence, no_fence, domain_fence, address_fence}
 use Rattle.model.specs.Calls.{Reply, refused_with, opened, closed, edited}
 use Rattle.model.specs.Apart.{Strength, strict, sharing, Separation, refused_apart, apart, table_open, page_shared}
-use Rattle.types.specs.declared.PrivilegeCode.{PrivilegeCode}
-use Rattle.types.specs.declared.PrivilegeCode.TheVariants as privilegeCode
-use Rattle.types.specs.declared.KindCode.{KindCode}
-use Rattle.types.specs.declared.KindCode.TheVariants as kindCode
-use Rattle.types.specs.declared.PermissionCode.{PermissionCode}
-use Rattle.types.specs.declared.PermissionCode.TheVariants as permissionCode
-use Rattle.types.specs.declared.StrengthCode.{StrengthCode}
-use Rattle.types.specs.declared.StrengthCode.TheVariants as strengthCode
-use Rattle.types.specs.Views.{privilege_of, kind_of, permission_number, strength_of}
 
 -- ---- what is asked
 
@@ -48,21 +39,10 @@ permission_at n = if eqb n 0 then known 0 else if eqb n 1 then known 1 else if e
 unfoldable pub strength_at : ℕ → Named Strength
 strength_at n = if eqb n 0 then known sharing else if eqb n 1 then known strict else unknown
 
-abbrev pub privilege_code_of : PrivilegeCode → Named Privilege
-privilege_code_of (privilegeCode.Known p) = known (privilege_of p)
-privilege_code_of privilegeCode.Unknown = unknown
-
-abbrev pub kind_code_of : KindCode → Named Kind
-kind_code_of (kindCode.Known k) = known (kind_of k)
-kind_code_of kindCode.Unknown = unknown
-
-abbrev pub permission_code_of : PermissionCode → Named ℕ
-permission_code_of (permissionCode.Known p) = known (permission_number p)
-permission_code_of permissionCode.Unknown = unknown
-
-abbrev pub strength_code_of : StrengthCode → Named Strength
-strength_code_of (strengthCode.Known s) = known (strength_of s)
-strength_code_of strengthCode.Unknown = unknown
+-- what the code makes of a code, by the view of what it names
+abbrev pub named_by : {A B E : Type 0} → (A → B) → Result A E → Named B
+named_by view (Ok x) = known (view x)
+named_by view (Err e) = unknown
 
 -- ---- what is answered: a refusal by its number, 1 to 8 or 10
 

@@ -1,5 +1,5 @@
 -- The code's types as the model's: one view for each, with the papers' numbers.
-use Rattle.std.specs.Prelude.{List, [], ◌∷◌, ℕ, take}
+use Rattle.std.specs.Prelude.{List, [], ◌∷◌, ℕ, Option, Result, Some, None, Ok, Err}
 use Rattle.model.specs.Entry as entry
 use Rattle.model.specs.Access as access
 use Rattle.model.specs.Lookup as lookup
@@ -8,7 +8,7 @@ use Rattle.model.specs.Forms as model
 use Rattle.model.specs.Calls as calls
 use Rattle.model.specs.Apart as apart
 use Rattle.types.specs.declared.Permission.{Permission}
-use Rattle.types.specs.declared.Permission.TheVariants.{None, Rx, Rw, Rwx}
+use Rattle.types.specs.declared.Permission.TheVariants as permission
 use Rattle.types.specs.declared.Need.{Need}
 use Rattle.types.specs.declared.Need.TheVariants.{Read, Write, Execute}
 use Rattle.types.specs.declared.Access.{Access}
@@ -27,8 +27,7 @@ use Rattle.types.specs.declared.Fence.{Fence}
 use Rattle.types.specs.declared.Fence.TheVariants.{Nothing, Domain, One}
 use Rattle.types.specs.declared.Entry.{Entry}
 use Rattle.types.specs.declared.Entry.TheVariants.{Flat, Pieces, Table, Invalid}
-use Rattle.types.specs.declared.Found.{Found}
-use Rattle.types.specs.declared.Found.TheVariants as found
+use Rattle.types.specs.declared.PageNumber.{PageNumber}
 use Rattle.types.specs.declared.Request.{Request}
 use Rattle.types.specs.declared.Reply.{Reply}
 use Rattle.types.specs.declared.Reply.TheVariants as reply
@@ -42,10 +41,10 @@ use Rattle.types.specs.declared.Separation.TheVariants as separation
 
 -- "00 none, 01 rx, 10 rw, 11 rwx"
 abbrev pub permission_number : Permission → ℕ
-permission_number None = 0
-permission_number Rx = 1
-permission_number Rw = 2
-permission_number Rwx = 3
+permission_number permission.None = 0
+permission_number permission.Rx = 1
+permission_number permission.Rw = 2
+permission_number permission.Rwx = 3
 
 abbrev pub need_view : Need → access.Need
 need_view Read = access.read
@@ -86,11 +85,11 @@ refusal_number refusal.NoRoom = 7
 refusal_number refusal.Sdid = 8
 refusal_number refusal.WriteExecute = 10
 
--- what a lookup answers
-abbrev pub answer_of : Answer → access.Answer
-answer_of answer.Allowed = access.allowed
-answer_of (answer.Fault c) = access.fault (cause_number c)
-answer_of (answer.Refused r) = access.refused (refusal_number r)
+-- what a lookup answers: a refusal by its number
+abbrev pub answer_of : Result Answer Refusal → access.Answer
+answer_of (Ok answer.Allowed) = access.allowed
+answer_of (Ok (answer.Fault c)) = access.fault (cause_number c)
+answer_of (Err r) = access.refused (refusal_number r)
 
 -- the fence that a call asks for
 abbrev pub fence_of : Fence → fence.Fence
@@ -105,10 +104,10 @@ entry_of (Pieces info) = entry.pieces info
 entry_of (Table page) = entry.table page.0
 entry_of Invalid = entry.invalid
 
--- what the walk finds
-abbrev pub found_of : Found → entry.Found
-found_of (found.Grant p) = entry.perm (permission_number p)
-found_of found.Fault = entry.faults
+-- what the walk finds: a permission, or a fault
+abbrev pub found_of : Option Permission → entry.Found
+found_of (Some p) = entry.perm (permission_number p)
+found_of None = entry.faults
 
 -- what an edit asks
 abbrev pub request_of : Request → model.Request
@@ -121,23 +120,28 @@ form_of (form.Pieces info) = model.want_pieces info
 form_of form.Table = model.want_table
 
 -- what a call answers: a refusal by its number
-abbrev pub reply_of : Reply → calls.Reply
-reply_of (reply.Refused r) = calls.refused_with (refusal_number r)
-reply_of reply.Opened = calls.opened
-reply_of reply.Closed = calls.closed
-reply_of (reply.Edited count all) = calls.edited count all
+abbrev pub reply_of : Result Reply Refusal → calls.Reply
+reply_of (Ok reply.Opened) = calls.opened
+reply_of (Ok reply.Closed) = calls.closed
+reply_of (Ok (reply.Edited count all)) = calls.edited count all
+reply_of (Err r) = calls.refused_with (refusal_number r)
+
+-- a page, if there is one, before those that follow it; none follows where there is none
+abbrev pub page_before : Option PageNumber → List ℕ → List ℕ
+page_before (Some page) more = page.0 ∷ more
+page_before None more = []
 
 -- the free pages that an edit may take, lowest first: two at the most
 abbrev pub free_list : Free → List ℕ
-free_list free = take free.count (free.first.0 ∷ free.second.0 ∷ [])
+free_list free = page_before free.first (page_before free.second [])
 
 -- how much is asked of domains that are to be kept apart, and what is answered
 abbrev pub strength_of : Strength → apart.Strength
 strength_of Strict = apart.strict
 strength_of Sharing = apart.sharing
 
-abbrev pub separation_of : Separation → apart.Separation
-separation_of (separation.Refused r) = apart.refused_apart (refusal_number r)
-separation_of separation.Apart = apart.apart
-separation_of (separation.TableOpen page slot written) = apart.table_open page.0 slot written
-separation_of (separation.PageShared page slot other written) = apart.page_shared page.0 slot other written
+abbrev pub separation_of : Result Separation Refusal → apart.Separation
+separation_of (Ok separation.Apart) = apart.apart
+separation_of (Ok (separation.TableOpen page slot written)) = apart.table_open page.0 slot written
+separation_of (Ok (separation.PageShared page slot other written)) = apart.page_shared page.0 slot other written
+separation_of (Err r) = apart.refused_apart (refusal_number r)

@@ -1,12 +1,15 @@
 // The types of the monitor, the same on every board, and what is said of them alone.
 #![tactic(auto)]
 
+ghost use Rattle.types.specs.Range.{Fair};
+
 pub mod bits;
 pub mod code;
 pub mod needed_page;
 pub mod number;
 pub mod pages;
 pub mod rights;
+pub mod text;
 
 // A page number, an address and an SDID are different kinds.
 #[derive(Clone, Copy)]
@@ -25,7 +28,7 @@ pub struct Frame {
     pub first: PageNumber,
 }
 
-#[derive(Clone, Copy)]
+#[derive(Clone, Copy, PartialEq, Eq)]
 pub enum Permission {
     None,
     Rx,
@@ -56,7 +59,7 @@ pub enum Kind {
 }
 
 // The effective privilege.
-#[derive(Clone, Copy)]
+#[derive(Clone, Copy, PartialEq, Eq)]
 pub enum Privilege {
     Machine,
     Supervisor,
@@ -85,15 +88,15 @@ pub enum Refusal {
     WriteExecute,
 }
 
-// What a lookup answers.
+// What a lookup answers that is not refused. No Result: a fault is as much its answer as leave is.
 #[derive(Clone, Copy)]
 pub enum Answer {
     Allowed,
     Fault(Cause),
-    Refused(Refusal),
 }
 
-// The fence that a call asks for: none, the whole domain, or one address of it. SDID 0 and address 0 are values like any other.
+// The fence that a call asks for: none, the whole domain, or one address of it. SDID 0 and address 0 are values like any other. None is one of the
+// three, and no `Option` of the other two: whoever asks takes the three apart.
 #[derive(Clone, Copy)]
 pub enum Fence {
     Nothing,
@@ -101,7 +104,8 @@ pub enum Fence {
     One(Address, Sdid),
 }
 
-// What an L2 entry says of its block: one permission, as its two bits; a permission for each piece; an L1 page; or nothing.
+// What an L2 entry says of its block: one permission, as its two bits; a permission for each piece; an L1 page; or nothing. Nothing is one of the
+// four, as in the definition, and no `None`: every use takes the four apart.
 #[derive(Clone, Copy)]
 pub enum Entry {
     Flat(u64),
@@ -110,23 +114,10 @@ pub enum Entry {
     Invalid,
 }
 
-// What the walk finds.
-#[derive(Clone, Copy)]
-pub enum Found {
-    Grant(Permission),
-    Fault,
-}
-
 // ---- calls
 
-// Whether a call may go on once the frame and the table are seen, or which refusal fits.
-#[derive(Clone, Copy)]
-pub enum Admission {
-    Granted,
-    Refused(Refusal),
-}
-
-// What an edit asks. The permission is its two bits, as an entry holds them.
+// What an edit asks. The permission is its two bits, as an entry holds them, here and in an `Entry` and a `Form`: they are spread over words and
+// spliced, and a `Permission` would be turned into them at each use.
 #[derive(Clone, Copy)]
 pub struct Request {
     pub slot: u64,
@@ -135,18 +126,18 @@ pub struct Request {
     pub permission: u64,
 }
 
-// An edit: its frame, what it asks, and the root page of its slot.
+// An edit: its frame, what it asks, and the root page of its slot. What it asks is fair: that is tested before there is an edit.
 #[derive(Clone, Copy)]
 pub struct Edit {
     pub f: Frame,
     pub q: Request,
     pub root: PageNumber,
+    pub ghost fair: { Fair q },
 }
 
-// What a call answers, beside the fence.
+// What a call did that was not refused.
 #[derive(Clone, Copy)]
 pub enum Reply {
-    Refused(Refusal),
     Opened,
     Closed,
     // How many stores were made, and whether that was all.
@@ -171,28 +162,6 @@ pub enum Form {
     Table,
 }
 
-// A block that gets a new L1 page: the block's entry, its number, and the page.
-#[derive(Clone, Copy)]
-pub struct NewPage {
-    pub e: Entry,
-    pub b: u64,
-    pub page: PageNumber,
-}
-
-// Whether a piece is of one permission once the edit is whole, and the permission of its first page.
-#[derive(Clone, Copy)]
-pub struct Piece {
-    pub one: bool,
-    pub p: u64,
-}
-
-// Whether a GiB is of one permission once the edit is whole, and the permission of its first page.
-#[derive(Clone, Copy)]
-pub struct Gib {
-    pub one: bool,
-    pub p: u64,
-}
-
 // ---- stores up to a limit
 
 // How many more stores may be made, and which word the last one went to.
@@ -202,31 +171,23 @@ pub struct Budget {
     pub last: usize,
 }
 
-// The progress of some stores: all were made, and what is left; or the limit cut them.
-#[derive(Clone, Copy)]
-pub struct Progress {
-    pub left: Budget,
-    pub all: bool,
-}
-
-// The progress of a row of entries, and how many of them it was.
+// A row of entries: how many of them were taken, and what is left of the limit; none if it cut them.
 #[derive(Clone, Copy)]
 pub struct RowProgress {
-    pub left: Budget,
+    pub left: Option<Budget>,
     pub count: usize,
-    pub all: bool,
 }
 
-// The progress of some blocks, the next new page, and how many blocks it was.
+// Some blocks: how many were taken, the next new page, and what is left of the limit; none if it cut their stores.
 #[derive(Clone, Copy)]
 pub struct BlocksProgress {
-    pub left: Budget,
+    pub left: Option<Budget>,
     pub next: u64,
     pub count: u64,
-    pub all: bool,
 }
 
-// What an edit answers: how many stores it made, whether that was all, and the fence.
+// What an edit answers: how many stores it made, whether that was all, and the fence. All three are told either way, so `all` makes no `Option` of
+// another.
 #[derive(Clone, Copy)]
 pub struct StoresMade {
     pub count: u64,
@@ -234,13 +195,11 @@ pub struct StoresMade {
     pub all: bool,
 }
 
-// The two lowest of the free pages, and how many of these two there are: an edit takes no more than two. Page 0, which is never lent,
-// stands for none.
+// The two lowest of the free pages: an edit takes no more than two. Where there is no first, there is no second.
 #[derive(Clone, Copy)]
 pub struct Free {
-    pub count: u64,
-    pub first: PageNumber,
-    pub second: PageNumber,
+    pub first: Option<PageNumber>,
+    pub second: Option<PageNumber>,
 }
 
 // ---- are the domains kept apart?
@@ -253,11 +212,10 @@ pub enum Strength {
     Sharing,
 }
 
-// What is answered: a refusal; apart; or of the lowest page at fault its number, the lowest slot that reaches a table page, or the lowest two that
-// share a page, and whether a slot that is told may write it.
+// What is answered that is not refused: apart; or of the lowest page at fault its number, the lowest slot that reaches a table page, or the lowest
+// two that share a page, and whether a slot that is told may write it.
 #[derive(Clone, Copy)]
 pub enum Separation {
-    Refused(Refusal),
     Apart,
     TableOpen(PageNumber, u64, bool),
     PageShared(PageNumber, u64, u64, bool),
@@ -271,14 +229,8 @@ pub struct Masks {
     pub reached: u64,
 }
 
-// Where the words of an L1 page begin, and how many L1 pages that is: one, or none.
-#[derive(Clone, Copy)]
-pub struct L1Start {
-    pub at: usize,
-    pub count: usize,
-}
-
-// What the slots have of a block: the masks, by pieces, of those that have no L1 page there; and where the words of the others' L1 pages begin.
+// What the slots have of a block: the masks, by pieces, of those that have no L1 page there; and where the words of the others' L1 pages
+// begin, as many as count says: the memory is fixed, so this is no `Vec`.
 #[derive(Clone, Copy)]
 pub struct Shares {
     pub even: Masks,
@@ -288,27 +240,6 @@ pub struct Shares {
 
 // ---- codes
 
-// A privilege, a kind of access, a strength and a permission by their codes, if they name one.
+// A code that names no privilege, no kind of access, no permission or no strength.
 #[derive(Clone, Copy)]
-pub enum PrivilegeCode {
-    Known(Privilege),
-    Unknown,
-}
-
-#[derive(Clone, Copy)]
-pub enum KindCode {
-    Known(Kind),
-    Unknown,
-}
-
-#[derive(Clone, Copy)]
-pub enum StrengthCode {
-    Known(Strength),
-    Unknown,
-}
-
-#[derive(Clone, Copy)]
-pub enum PermissionCode {
-    Known(Permission),
-    Unknown,
-}
+pub struct UnknownCode;

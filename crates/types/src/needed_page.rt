@@ -1,5 +1,5 @@
 // New pages of blocks: which block takes one, and which page it is.
-ghost use Rattle.std.specs.Prelude.{◌≡◌, ◌+◌, ◌<◌, ◌^◌, drop, if◌then◌else◌};
+ghost use Rattle.std.specs.Prelude.{◌≡◌, ◌+◌, ◌<◌, ◌^◌, drop, length, if◌then◌else◌};
 ghost use mathlib.Core.List.{head_d};
 ghost use Rattle.model.specs.Stores.{needs_page};
 ghost use Rattle.types.specs.Views.{entry_of, form_of, free_list};
@@ -7,16 +7,15 @@ ghost use Rattle.types.specs.Views.{entry_of, form_of, free_list};
 use crate::{Entry, Form, Free, PageNumber};
 
 // A block that is to have an L1 page and has none.
+#[tactic(auto, unfolding(model::specs::Stores::needs_page))]
 pub fn needs_page(form: Form, e: Entry) -> bool
     ensures { result ≡ needs_page (form_of form) (entry_of e) }
 {
-    if let Form::Table = form {
-        if let Entry::Table(_) = e {
-            return false;
-        }
-        return true;
+    match (form, e) {
+        (Form::Table, Entry::Table(_)) => false,
+        (Form::Table, _) => true,
+        _ => false,
     }
-    false
 }
 
 // The place of the next new page among the free ones.
@@ -30,19 +29,25 @@ pub fn next_page(form: Form, e: Entry, next: u64) -> u64
     next
 }
 
-// The first of the free pages that are left. Page 0, which is never lent, stands for none.
+// How many free pages an edit may take: two at the most.
+pub fn count(free: Free) -> u64
+    ensures { result ≡ length (free_list free) }
+{
+    match (free.first, free.second) {
+        (Some(_), Some(_)) => 2,
+        (Some(_), None) => 1,
+        (None, _) => 0,
+    }
+}
+
+// The first of the free pages that are left. No Option: a block that takes none is handed page 0, which is never lent, and never looks at it.
 pub fn page_from(free: Free, next: u64) -> PageNumber
     ensures { result.0 ≡ head_d (drop next (free_list free)) 0 }
 {
-    let count = free.count;
-    if count <= next {
-        return PageNumber(0);
-    }
-    if next == 0 {
-        return free.first;
-    }
-    if next == 1 {
-        return free.second;
-    }
-    PageNumber(0)
+    let page = match next {
+        0 => free.first,
+        1 => free.first.and(free.second),
+        _ => None,
+    };
+    page.unwrap_or(PageNumber(0))
 }

@@ -3,10 +3,10 @@ ghost use Rattle.std.specs.Prelude.{◌≡◌, ◌+◌, ◌*◌, ◌%◌, ◌≤
 ghost use Rattle.model.specs.Frame as frame;
 ghost use Rattle.model.specs.Layout.{block_pages, gib_blocks};
 ghost use Rattle.model.specs.Walk as walk;
-ghost use Rattle.types.specs.Range.{Fair, Lies, Meets, Cut};
+ghost use Rattle.types.specs.Range.{Lies, Meets, Cut};
 ghost use Rattle.types.specs.Views.{request_of};
 
-use crate::{Address, PageNumber, Place, Request};
+use crate::{Address, Edit, PageNumber, Place};
 
 // "whole pages of 4,096 bytes"
 pub const PAGE_BYTES: u64 = 4096;
@@ -24,6 +24,7 @@ pub const GIB_PAGES: u64 = GIB_BLOCKS * BLOCK_PAGES;
 pub const GIB_BYTES: u64 = GIB_BLOCKS * BLOCK_BYTES;
 
 // The page number of an address.
+#[tactic(auto, unfolding(model::specs::Frame::page_of))]
 pub fn page_of(a: Address) -> PageNumber
     ensures { result.0 ≡ frame.page_of a.0 }
 {
@@ -31,6 +32,7 @@ pub fn page_of(a: Address) -> PageNumber
 }
 
 // The block that a page lies in.
+#[tactic(auto, unfolding(model::specs::Walk::pn2))]
 pub fn pn2(page: PageNumber) -> u64
     ensures { result ≡ walk.pn2 page.0 }
 {
@@ -38,12 +40,12 @@ pub fn pn2(page: PageNumber) -> u64
 }
 
 // Where the n pages from page s lie.
-pub fn lies(q: Request, s: u64, n: u64) -> Place
-    requires { (s + n ≤ 2 ^ 44) × Fair q }
-    ensures { Lies (request_of q) s n result }
+pub fn lies(edit: Edit, s: u64, n: u64) -> Place
+    requires { s + n ≤ 2 ^ 44 }
+    ensures { Lies (request_of edit.q) s n result }
 {
-    let start = q.start.0;
-    let end = q.start.0 + q.size;
+    let start = edit.q.start.0;
+    let end = edit.q.start.0 + edit.q.size;
     let low = s * PAGE_BYTES;
     let high = (s + n) * PAGE_BYTES;
     if high <= start {
@@ -62,12 +64,12 @@ pub fn lies(q: Request, s: u64, n: u64) -> Place
 }
 
 // One of the n pages from page s lies in the range.
-pub fn meets(q: Request, s: u64, n: u64) -> bool
-    requires { (s + n ≤ 2 ^ 44) × (0 < n) × Fair q }
-    ensures { Meets (request_of q) s n result }
+pub fn meets(edit: Edit, s: u64, n: u64) -> bool
+    requires { (s + n ≤ 2 ^ 44) × (0 < n) }
+    ensures { Meets (request_of edit.q) s n result }
 {
-    let start = q.start.0;
-    let end = q.start.0 + q.size;
+    let start = edit.q.start.0;
+    let end = edit.q.start.0 + edit.q.size;
     if (s + n) * PAGE_BYTES <= start {
         return false;
     }
@@ -82,30 +84,17 @@ pub fn cut(end: u64, s: u64, n: u64) -> u64
     requires { s + n ≤ 2 ^ 44 }
     ensures { Cut end s n result }
 {
-    if end <= s {
-        return 0;
-    }
-    if s + n <= end {
-        return n;
-    }
-    end - s
+    end.saturating_sub(s).min(n)
 }
 
 // How many blocks from b on lie outside the range, up to the end of their GiB.
-pub fn blocks_outside(q: Request, b: u64) -> u64
-    requires { (b < 2 ^ 31) × Fair q }
-    ensures { (b % gib_blocks + result ≤ gib_blocks) × Lies (request_of q) (b * block_pages) (result * block_pages) Place.Outside }
+pub fn blocks_outside(edit: Edit, b: u64) -> u64
+    requires { b < 2 ^ 31 }
+    ensures { (b % gib_blocks + result ≤ gib_blocks) × Lies (request_of edit.q) (b * block_pages) (result * block_pages) Place.Outside }
 {
     let rest = GIB_BLOCKS - b % GIB_BLOCKS;
-    if q.start.0 + q.size <= b * BLOCK_BYTES {
+    if edit.q.start.0 + edit.q.size <= b * BLOCK_BYTES {
         return rest;
     }
-    let first = q.start.0 / BLOCK_BYTES;
-    if first <= b {
-        return 0;
-    }
-    if first - b < rest {
-        return first - b;
-    }
-    rest
+    cut(edit.q.start.0 / BLOCK_BYTES, b, rest)
 }

@@ -1,10 +1,9 @@
 // Kinds of access, what each needs, who may do what, and the cause of a fault.
 ghost use Rattle.std.specs.Prelude.{◌≡◌, ◌<◌};
 ghost use Rattle.model.specs.Access as access;
-ghost use Rattle.model.specs.Lookup as lookup;
-ghost use Rattle.types.specs.Views.{permission_number, need_view, access_of, kind_of, privilege_of, cause_number};
+ghost use Rattle.types.specs.Views.{permission_number, need_view, access_of, kind_of, cause_number};
 
-use crate::{Access, Cause, Kind, Need, Permission, Privilege};
+use crate::{Access, Cause, Kind, Need, Permission};
 
 // "a small table of four permissions by three needs, kept as rows": none, rx, rw, rwx; read, write, execute.
 const MAY_ROWS: [[bool; 3]; 4] = [
@@ -14,7 +13,7 @@ const MAY_ROWS: [[bool; 3]; 4] = [
     [true, true, true],
 ];
 
-// A permission from its two bits.
+// A permission from its two bits. No `TryFrom`: of two bits it cannot fail.
 pub fn permission_of(bits: u64) -> Permission
     requires { bits < 4 }
     ensures { permission_number result ≡ bits }
@@ -28,23 +27,21 @@ pub fn permission_of(bits: u64) -> Permission
 }
 
 // Its two bits, as an entry holds them.
-pub fn bits(p: Permission) -> u64
-    ensures { (result ≡ permission_number p) × (result < 4) }
-{
-    match p {
-        Permission::None => 0,
-        Permission::Rx => 1,
-        Permission::Rw => 2,
-        Permission::Rwx => 3,
+impl From<Permission> for u64 {
+    ghost from_gives = { λ p n. (n ≡ permission_number p) × (n < 4) };
+
+    fn from(p: Permission) -> u64 {
+        match p {
+            Permission::None => 0,
+            Permission::Rx => 1,
+            Permission::Rw => 2,
+            Permission::Rwx => 3,
+        }
     }
 }
 
-fn row(p: Permission) -> usize
-    ensures { (result ≡ permission_number p) × (result < 4) }
-{
-    bits(p) as usize
-}
-
+// The place of a need in a row.
+#[tactic(auto, unfolding(model::specs::Access::column_of))]
 fn column(n: Need) -> usize
     ensures { (result ≡ access.column_of (need_view n)) × (result < 3) }
 {
@@ -55,15 +52,18 @@ fn column(n: Need) -> usize
     }
 }
 
+#[tactic(auto, unfolding(model::specs::Access::may, model::specs::Access::may_rows))]
 pub fn may(p: Permission, n: Need) -> bool
     ensures { result ≡ access.may (permission_number p) (need_view n) }
 {
-    let i = row(p);
+    let i = u64::from(p) as usize;
     let j = column(n);
     MAY_ROWS[i][j]
 }
 
-// "A fetch needs execute, a load and a page-table read need read, a store and an A/D update need write."
+// "A fetch needs execute, a load and a page-table read need read, a store and an A/D update need write." No
+// `From`: this is a rule of the paper, and not the kind in another form.
+#[tactic(auto, unfolding(model::specs::Access::need_of))]
 pub fn need_of(kind: Kind) -> Need
     ensures { need_view result ≡ access.need_of (kind_of kind) }
 {
@@ -78,33 +78,27 @@ pub fn need_of(kind: Kind) -> Need
     }
 }
 
-fn fault_of(a: Access) -> Cause
-    ensures { cause_number result ≡ access.cause_of (access_of a) }
-{
-    match a {
-        Access::Fetch => Cause::Fetch,
-        Access::Load => Cause::Load,
-        Access::Store => Cause::Store,
+impl From<Access> for Cause {
+    ghost from_gives = { λ a c. cause_number c ≡ access.cause_of (access_of a) };
+
+    #[tactic(auto, unfolding(model::specs::Access::cause_of))]
+    fn from(a: Access) -> Cause {
+        match a {
+            Access::Fetch => Cause::Fetch,
+            Access::Load => Cause::Load,
+            Access::Store => Cause::Store,
+        }
     }
 }
 
 // "The fault is that of the original access: fetch 1, load 5, store 7."
+#[tactic(auto, unfolding(model::specs::Access::original_of))]
 pub fn cause_of(kind: Kind) -> Cause
     ensures { cause_number result ≡ access.cause_of (access.original_of (kind_of kind)) }
 {
     match kind {
-        Kind::Itself(a) => fault_of(a),
-        Kind::TableRead(a) => fault_of(a),
-        Kind::Update(a) => fault_of(a),
-    }
-}
-
-pub fn is_machine(privilege: Privilege) -> bool
-    ensures { result ≡ lookup.is_machine (privilege_of privilege) }
-{
-    match privilege {
-        Privilege::Machine => true,
-        Privilege::Supervisor => false,
-        Privilege::User => false,
+        Kind::Itself(a) => Cause::from(a),
+        Kind::TableRead(a) => Cause::from(a),
+        Kind::Update(a) => Cause::from(a),
     }
 }

@@ -3,13 +3,10 @@ use mathlib.Core.Path.{◌≡◌, sym, ap, ◌∙◌}
 use mathlib.Core.Bool.{not}
 use Prim.Native.Nat.{◌+◌}
 use native.Mathlib.Omega.{arith}
-use lib.Dec.{ltb}
-use borrow.Author.Tests.{ltb-true, ltb-false}
 use Rattle.model.specs.Apart.{table_page}
-use Rattle.laws.proofs.Choices.{split}
 use Rattle.laws.proofs.FrameNumbers.{Bounds, bounds, framed, few_pages}
 use Rattle.sharing.specs.Faults.{some}
-use Rattle.sharing.proofs.TableFaults.{no_table_page, table_some, table_none}
+use Rattle.sharing.proofs.TableFaults.{no_table_page, table_asked}
 use Rattle.table.specs.Board.{frame_of}
 use Rattle.types.specs.Views.{strength_of}
 use Rattle.apart.proofs.TableMarks.{table_marked}
@@ -42,9 +39,5 @@ reached_by-requires c = (framed _ _ c.requires.0.ok_frame).0
 pub returns : goal.returns
 returns c =
     let a = c.args in
-    let F = frame_of a.f a.words.now in
     let t = is_table (goal.at.returns c).After-stands ∙ ap not c.if-stands.false in
-    let r = c.reached_by.result in
-    split (ltb r 8)
-    (λ z. z ∙ sym (table_some F a.words.now a.slots (strength_of a.s) _ t r c.reached_by.ensures (ltb-true r 8 z)).0)
-    (λ z. z ∙ sym (ap some (table_none F a.words.now a.slots (strength_of a.s) _ t r c.reached_by.ensures (ltb-false r 8 z))))
+    c.is_some.ensures ∙ table_asked (frame_of a.f a.words.now) a.words.now a.slots (strength_of a.s) _ t c.reached_by.result c.reached_by.ensures

@@ -30,7 +30,7 @@ outside c page out = let a = c.args in ap some (not_lent a.f a.words.now a.slots
 pub loop-k-init : goal.loop-k-init
 loop-k-init c =
     let F = frame_of c.args.f c.args.words.now in
-    (omega arith, λ k u. outside (goal.at.loop-k-init c).Start (0 + k) (λ l. omega (arith, lent_low F (0 + k) l)))
+    λ k u. outside (goal.at.loop-k-init c).Start (0 + k) (λ l. omega (arith, lent_low F (0 + k) l))
 
 pub overflow_add-result : goal.overflow_add-result
 overflow_add-result c =
@@ -39,16 +39,13 @@ overflow_add-result c =
 pub returns-then-at_fault : goal.returns-then-at_fault
 unfolding space
 returns-then-at_fault c =
-    found_next _ (c.args.f.first.0 + c.loop-k.k) c.loop-k.invariant.1 _ (omega (arith, (within (goal.at.returns-then-at_fault c).Start).room, c.loop-k-test.true)) (sym c.at_fault.ensures ∙ c.if-at_fault.true)
-
-pub page_count-requires : goal.page_count-requires
-page_count-requires c = (framed _ _ c.requires.ok_frame).0
+    found_next _ (c.args.f.first.0 + c.loop-k.k) c.loop-k.invariant _ (omega (arith, (within (goal.at.returns-then-at_fault c).Start).room, c.loop-k-test.true)) (sym c.at_fault.ensures ∙ c.if-at_fault.true)
 
 pub returns : goal.returns
 returns c =
     let a = c.args in
     let F = frame_of a.f a.words.now in
-    rw c.page_count.ensures.0 (none_at_all (test F a.words.now a.slots (strength_of a.s)) 0 (space F)
+    none_at_all (test F a.words.now a.slots (strength_of a.s)) 0 (space F)
     (λ k u. split (ltb k (a.f.first.0 + c.loop-k.k))
-    (λ z. c.loop-k.invariant.1 k (ltb-true k (a.f.first.0 + c.loop-k.k) z))
-    (λ z. outside (goal.at.returns c).Start (0 + k) (λ h. omega (arith, ltb-false k (a.f.first.0 + c.loop-k.k) z, lent_high F (0 + k) h, c.loop-k-test.false)))))
+    (λ z. c.loop-k.invariant k (ltb-true k (a.f.first.0 + c.loop-k.k) z))
+    (λ z. outside (goal.at.returns c).Start (0 + k) (λ h. omega (arith, ltb-false k (a.f.first.0 + c.loop-k.k) z, lent_high F (0 + k) h, c.loop-k-test.false))))

@@ -5,6 +5,4 @@ use Rattle.model.specs.Calls.{Outcome}
 use Rattle.api.proofs.mpt_close.Goals as goal
 
 pub returns : goal.returns
-returns c =
-    let a = c.args in
-    c.done_word.ensures a.words.now ∙ ap (λ (o : Outcome). done_word o) c.close-o.ensures
+returns c = c.done_word.ensures c.args.words.now ∙ ap (λ (o : Outcome). done_word o) c.close.ensures

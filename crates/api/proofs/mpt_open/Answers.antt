@@ -6,6 +6,6 @@ use Rattle.api.proofs.mpt_open.Goals as goal
 
 pub returns : goal.returns
 returns c = (
-  c.opened_word.ensures c.open-o.new.words ∙ ap (λ (o : Outcome). opened_word o c.args.slot) c.open-o.ensures,
-  ap (λ (o : Outcome). o.memory) c.open-o.ensures,
+  c.opened_word.ensures c.«open».new.words ∙ ap (λ (o : Outcome). opened_word o c.args.slot) c.«open».ensures,
+  ap (λ (o : Outcome). o.memory) c.«open».ensures,
 )

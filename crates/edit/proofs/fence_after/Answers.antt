@@ -16,14 +16,14 @@ pub returns-then-count-ne1 : goal.returns-then-count-ne1
 unfolding fence_after
 returns-then-count-ne1 c = rw (ne_eqb _ 0 c.if-count-eq0.false, eq-eqb _ 4096 c.if-edit-ne-PAGE_BYTES.false, ne_eqb _ 1 c.if-count-ne1.true)
 
-pub returns-then-not-all : goal.returns-then-not-all
+pub returns-in_default : goal.returns-in_default
 unfolding fence_after
-returns-then-not-all c = rw (ne_eqb _ 0 c.if-count-eq0.false, eq-eqb _ 4096 c.if-edit-ne-PAGE_BYTES.false, eq-eqb _ 1 c.if-count-ne1.false, c.if-not-all.true)
+returns-in_default c = rw (ne_eqb _ 0 c.if-count-eq0.false, eq-eqb _ 4096 c.if-edit-ne-PAGE_BYTES.false, eq-eqb _ 1 c.if-count-ne1.false, c.in_default.is)
 
 pub returns-then-in_root : goal.returns-then-in_root
 unfolding fence_after
-returns-then-in_root c = rw (ne_eqb _ 0 c.if-count-eq0.false, eq-eqb _ 4096 c.if-edit-ne-PAGE_BYTES.false, eq-eqb _ 1 c.if-count-ne1.false, c.if-not-all.false, sym c.in_root.ensures ∙ c.if-in_root.true)
+returns-then-in_root c = rw (ne_eqb _ 0 c.if-count-eq0.false, eq-eqb _ 4096 c.if-edit-ne-PAGE_BYTES.false, eq-eqb _ 1 c.if-count-ne1.false, c.in-Some.is, sym c.in_root.ensures ∙ c.if-in_root.true)
 
 pub returns : goal.returns
 unfolding fence_after
-returns c = rw (ne_eqb _ 0 c.if-count-eq0.false, eq-eqb _ 4096 c.if-edit-ne-PAGE_BYTES.false, eq-eqb _ 1 c.if-count-ne1.false, c.if-not-all.false, sym c.in_root.ensures ∙ c.if-in_root.false)
+returns c = rw (ne_eqb _ 0 c.if-count-eq0.false, eq-eqb _ 4096 c.if-edit-ne-PAGE_BYTES.false, eq-eqb _ 1 c.if-count-ne1.false, c.in-Some.is, sym c.in_root.ensures ∙ c.if-in_root.false)

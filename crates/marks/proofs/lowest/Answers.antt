@@ -2,7 +2,7 @@
 use mathlib.Core.Path.{◌≡◌, refl}
 use mathlib.Core.Bool.{Bool, true, false}
 use mathlib.Core.List.{List}
-use Prim.Native.Nat.{ℕ, ◌*◌, ◌≤◌, ◌<◌}
+use Prim.Native.Nat.{ℕ, ◌+◌, ◌*◌, ◌≤◌, ◌<◌}
 use native.Mathlib.Omega.{arith}
 use lib.Dec.{ltb}
 use borrow.Author.Tests.{ltb-true, ltb-false}
@@ -24,14 +24,17 @@ returns-then-word-ne0 c =
     let m = c.args.marks.now in
     let i = c.loop-i.i in
     let low = c.lowest_bit.ensures in
-    record {
-      within = omega (arith, low.within, c.loop-i-test.true);
-      is_marked = λ h. lowest_stands m i _ low.within low.is_set;
-      below = passed m i c.loop-i.invariant.1 _ (none_below m i _ low.within low.below);
-    }
+    let inside : 64 * i + c.lowest_bit.result < 256 = omega (arith, low.within, c.loop-i-test.true) in (
+      inside,
+      record {
+        within = omega (arith, inside);
+        is_marked = λ h. lowest_stands m i _ low.within low.is_set;
+        below = passed m i c.loop-i.invariant _ (none_below m i _ low.within low.below);
+      },
+    )
 
 pub loop-i-preserved : goal.loop-i-preserved
 loop-i-preserved c =
     let m = c.args.marks.now in
     let i = c.loop-i.i in
-    (omega (arith, c.loop-i-test.true), passed m i c.loop-i.invariant.1 _ (λ k lo hi. clear_word m i k c.if-word-ne0.false lo (omega arith)))
+    passed m i c.loop-i.invariant _ (λ k lo hi. clear_word m i k c.if-word-ne0.false lo (omega arith))

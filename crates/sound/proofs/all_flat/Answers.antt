@@ -1,20 +1,23 @@
--- `sound::all_flat` meets its contract: the invariant: what was gathered, and the rest of the GiB, decide the whole.
+-- `sound::all_flat` meets its contract: the words of a GiB, gathered, are as one of the "1G" types exactly when each is.
 use mathlib.Core.Path.{◌≡◌, refl, sym, ap, ◌∙◌}
 use mathlib.Core.Bool.{Bool, false, ◌&&◌}
-use Prim.Native.Nat.{ℕ, ◌+◌, ◌-◌, ◌≤◌, ◌<◌}
+use mathlib.Core.List.{List}
+use Prim.Native.Nat.{ℕ, ◌+◌, ◌-◌}
 use native.Mathlib.Nat.{add-zero}
 use native.Mathlib.Omega.{arith}
-use lib.Bits.{bit_or}
 use lib.ListN.{get_or}
 use Rattle.model.specs.Layout.{gib_blocks}
 use Rattle.model.specs.Numbers.{every}
-use Rattle.laws.proofs.Choices.{and-alone}
-use Rattle.laws.proofs.Every.{every_step, every_next, every_none}
+use Rattle.laws.proofs.Every.{every_step}
 use Rattle.scan.specs.Scan.{flat_word}
-use Rattle.scan.proofs.FlatEntries.{flat_gathered}
+use Rattle.scan.proofs.FlatEntries.{flat_both}
+use Rattle.scan.proofs.Loops.{part_every}
 use Rattle.table.specs.Board.{board}
-use Rattle.sound.proofs.all_flat.Invariants.{test}
 use Rattle.sound.proofs.all_flat.Goals as goal
+
+-- the word at place i of the GiB
+abbrev test : List ℕ → ℕ → ℕ → Bool
+test m at i = flat_word board (get_or m (at + i) 0)
 
 pub returns-then-not-is_flat : goal.returns-then-not-is_flat
 returns-then-not-is_flat c =
@@ -23,29 +26,13 @@ returns-then-not-is_flat c =
     ∙ ap (flat_word board) (sym c.wide.ensures.0) ∙ sym c.is_flat.ensures ∙ c.if-not-is_flat.true in
     sym (every_step (test a.words.now a.at) 31 0 ∙ ap (λ (b : Bool). b && every (test a.words.now a.at) 31 1) first)
 
-pub loop-i-init : goal.loop-i-init
-unfolding flat_word
-loop-i-init c = (omega arith, refl)
-
-pub loop-i-preserved : goal.loop-i-preserved
-loop-i-preserved c =
-    let a = c.args in
-    let m = a.words.now in
-    let h : c.loop-i.i < gib_blocks = omega arith in
-    let rest : Bool = every (test m a.at) (gib_blocks - (c.loop-i.i + 1)) (c.loop-i.i + 1) in (
-      omega arith,
-      c.loop-i.invariant.1
-          ∙ ap (λ (b : Bool). flat_word board c.loop-i.all && b) (every_next (test m a.at) gib_blocks c.loop-i.i h)
-          ∙ flat_gathered board c.loop-i.all (get_or m (a.at + c.loop-i.i) 0) rest
-          ∙ ap (λ (x : ℕ). flat_word board (bit_or c.loop-i.all x) && rest) (sym c.wide-all.ensures.0),
-    )
-
 pub returns : goal.returns
+unfolding flat_word
 returns c =
     let a = c.args in
     let m = a.words.now in
-    let h : gib_blocks ≤ c.loop-i.i = omega (arith, c.loop-i-test.false) in
+    let n : a.at + gib_blocks - a.at ≡ gib_blocks = omega arith in
     c.is_flat-2.ensures
-    ∙ sym (c.loop-i.invariant.1
-    ∙ ap (λ (b : Bool). flat_word board c.loop-i.all && b) (every_none (test m a.at) gib_blocks c.loop-i.i h)
-    ∙ and-alone (flat_word board c.loop-i.all))
+    ∙ c.gathered.ensures (flat_word board) refl (flat_both board)
+    ∙ part_every m a.at (a.at + gib_blocks) (omega arith, c.requires) (flat_word board)
+    ∙ ap (λ (k : ℕ). every (λ i. flat_word board (get_or m (a.at + i) 0)) k 0) n

@@ -7,13 +7,13 @@ use Rattle.scan.proofs.Loops.{all_on, all_stopped, all_ended}
 use Rattle.sound.proofs.registers.Goals as goal
 
 pub returns-then-not-register : goal.returns-then-not-register
-returns-then-not-register c = let h : c.loop-i.i < length c.args.slots = omega arith in
-    sym (c.loop-i.invariant.2 ∙ all_stopped _ _ _ _ h (rw c.if-not-register.true at c.register.ensures))
+returns-then-not-register c = let h : c.loop-r.r-index < length c.args.slots = omega arith in
+    sym (c.loop-r.invariant ∙ all_stopped _ _ _ _ h (rw c.if-not-register.true at c.register.ensures))
 
-pub loop-i-preserved : goal.loop-i-preserved
-loop-i-preserved c = let h : c.loop-i.i < length c.args.slots = omega arith in
-    (omega arith, omega arith, c.loop-i.invariant.2 ∙ all_on _ _ _ _ h (rw c.if-not-register.false at c.register.ensures))
+pub loop-r-preserved : goal.loop-r-preserved
+loop-r-preserved c = let h : c.loop-r.r-index < length c.args.slots = omega arith in
+    c.loop-r.invariant ∙ all_on _ _ _ _ h (rw c.if-not-register.false at c.register.ensures)
 
 pub returns : goal.returns
-returns c = let h : length c.args.slots ≤ c.loop-i.i = omega arith in
-    sym (c.loop-i.invariant.2 ∙ all_ended _ _ _ _ h)
+returns c = let h : length c.args.slots ≤ c.loop-r.r-index = omega arith in
+    sym (c.loop-r.invariant ∙ all_ended _ _ _ _ h)

@@ -1,9 +1,9 @@
 -- `sound::root` meets its contract: the root is claimed before its entries are read, so it is lent, and its words are its entries.
 use mathlib.Core.Path.{◌≡◌, ap, ◌∙◌}
 use mathlib.Core.Bool.{true}
-use Prim.Native.Nat.{ℕ, ◌+◌, ◌-◌, ◌*◌, ◌%◌, ◌<◌, ◌^◌}
+use Prim.Native.Nat.{ℕ, ◌+◌, ◌-◌, ◌*◌, ◌%◌, ◌^◌}
 use native.Mathlib.Omega.{arith}
-use lib.Pow.{pow-add, pow_pos}
+use lib.Pow.{pow-add}
 use Rattle.model.specs.Frame.{blocks, lent}
 use Rattle.model.specs.Layout.{gib_blocks}
 use Rattle.laws.proofs.FrameNumbers.{bounds}
@@ -16,14 +16,14 @@ use Rattle.sound.proofs.root.Goals.{After-block_count-count, Then-claim}
 is_lent_lem : (c : Then-claim) → let a = c.args in lent (frame_of a.f a.words.now) a.page.0 ≡ true
 is_lent_lem c = claimed_lent _ _ _ (rw c.if-claim.true at c.claim.ensures)
 
--- a root has whole GiBs, one at the least
-whole_gibs : (c : After-block_count-count) → (0 < c.block_count-count.result) × (c.block_count-count.result % gib_blocks ≡ 0)
+-- a root has whole GiBs
+whole_gibs : (c : After-block_count-count) → c.block_count-count.result % gib_blocks ≡ 0
 unfolding blocks
 whole_gibs c =
     let paw = c.args.f.paw in
     let e : paw - 25 ≡ paw - 30 + 5 = omega (arith, (bounds _ c.requires).paw_low_lem) in
     let w : c.block_count-count.result ≡ 2 ^ (paw - 30) * gib_blocks = c.block_count-count.ensures.0 ∙ ap (λ (k : ℕ). 2 ^ k) e ∙ pow-add 2 (paw - 30) 5 in
-    (omega (arith, w, pow_pos (paw - 30)), omega (arith, w))
+    omega (arith, w)
 
 pub page_at-at-requires : goal.page_at-at-requires
 page_at-at-requires c = is_lent_lem (goal.at.page_at-at-requires c).Then-claim
@@ -31,7 +31,7 @@ page_at-at-requires c = is_lent_lem (goal.at.page_at-at-requires c).Then-claim
 pub gibs-requires : goal.gibs-requires
 gibs-requires c =
     let w = whole_gibs (goal.at.gibs-requires c).After-block_count-count in
-    (c.requires, omega (arith, w.0), omega (arith, w.1), omega (arith, c.page_at-at.ensures.1, c.block_count-count.ensures.1))
+    (c.requires, omega (arith, w), omega (arith, c.page_at-at.ensures.1, c.block_count-count.ensures.1))
 
 pub returns-then-claim : goal.returns-then-claim
 unfolding root_step

@@ -4,7 +4,7 @@ use mathlib.Core.Bool.{Bool}
 use Prim.Native.Nat.{ℕ, ◌+◌, ◌*◌, ◌/◌, ◌%◌, ◌<◌}
 use native.Mathlib.Nat.{add-zero}
 use native.Mathlib.Omega.{arith}
-use lib.ListN.{get_or}
+use lib.ListN.{length, get_or}
 use Rattle.sharing.specs.Crowds.{table_opens, table_reaches, entry_for}
 use Rattle.sharing.specs.Masks.{open_bit, reach_bit, one, Counted}
 use Rattle.sharing.proofs.MaskLaws.{table_more}
@@ -16,13 +16,13 @@ use Rattle.apart.proofs.crowd.at_entry.Goals.{After-add-all}
 -- after one more, at field i
 more : (c : After-add-all) → let a = c.args in
     (i n d : ℕ) → i < FIELDS → Counted a.base (4 * i) n d
-    → Counted c.add-all.result (4 * i) (n + table_opens board a.words.now a.tables.now (c.loop-t.t + 1) (a.k * FIELDS + i))
-    (d + table_reaches board a.words.now a.tables.now (strength_of a.s) (c.loop-t.t + 1) (a.k * FIELDS + i))
+    → Counted c.add-all.result (4 * i) (n + table_opens board a.words.now a.tables.now (c.loop-at.at-index + 1) (a.k * FIELDS + i))
+    (d + table_reaches board a.words.now a.tables.now (strength_of a.s) (c.loop-at.at-index + 1) (a.k * FIELDS + i))
 more c i n d u h =
     let a = c.args in
     let m = a.words.now in
     let q : ℕ = a.k * FIELDS + i in
-    let t : ℕ = c.loop-t.t in
+    let t : ℕ = c.loop-at.at-index in
     let place : 4 * (q % FIELDS) ≡ 4 * i = omega arith in
     let row : q / FIELDS ≡ a.k = omega arith in
     let word : c.wide.result ≡ entry_for board m a.tables.now t q = c.wide.ensures.0 ∙ ap (λ (x : ℕ). get_or m (get_or a.tables.now t 0 + x) 0) (sym row) in
@@ -32,14 +32,14 @@ more c i n d u h =
     (ap (λ (x : Bool). n + table_opens board m a.tables.now t q + one x) one-o ∙ table_more (λ t'. open_bit (entry_for board m a.tables.now t' q) (4 * (q % FIELDS))) n t)
     (subst (Counted c.add-all.result (4 * i) (n + table_opens board m a.tables.now t q + one (open_bit c.wide.result (4 * i))))
     (ap (λ (x : Bool). d + table_reaches board m a.tables.now (strength_of a.s) t q + one x) one-r ∙ table_more (λ t'. reach_bit (strength_of a.s) (entry_for board m a.tables.now t' q) (4 * (q % FIELDS))) d t)
-    (c.add-all.ensures (4 * i) _ _ (c.loop-t.invariant.1 i n d u h)))
+    (c.add-all.ensures (4 * i) _ _ (c.loop-at.invariant i n d u h)))
 
-pub loop-t-init : goal.loop-t-init
+pub loop-at-init : goal.loop-at-init
 unfolding Rattle.laws.proofs.Sums.sum
-loop-t-init c = (omega arith, λ i n d u h. let base = c.args.base in subst (λ (x : ℕ). Counted base (4 * i) x (d + 0)) (sym (add-zero n)) (subst (Counted base (4 * i) n) (sym (add-zero d)) h))
+loop-at-init c = λ i n d u h. let base = c.args.base in subst (λ (x : ℕ). Counted base (4 * i) x (d + 0)) (sym (add-zero n)) (subst (Counted base (4 * i) n) (sym (add-zero d)) h)
 
-pub loop-t-preserved : goal.loop-t-preserved
-loop-t-preserved c = (omega arith, more c)
+pub loop-at-preserved : goal.loop-at-preserved
+loop-at-preserved c = more c
 
 pub returns : goal.returns
-returns c = let e : c.loop-t.t ≡ c.args.count = omega arith in rw e at c.loop-t.invariant.1
+returns c = let e : c.loop-at.at-index ≡ length c.args.tables.now = omega arith in rw e at c.loop-at.invariant

@@ -1,5 +1,5 @@
 -- `apart::crowd::crowded_page` meets its contract: the invariant: no page of the blocks passed is crowded.
-use Prim.Native.Nat.{◌*◌, ◌-◌, ◌≤◌}
+use Prim.Native.Nat.{◌*◌}
 use Rattle.model.specs.Layout.{block_pages}
 use Rattle.sharing.specs.Crowds.{crowded}
 use Rattle.sharing.proofs.FirstLaws.{NoneOf}
@@ -8,7 +8,4 @@ use Rattle.types.specs.Views.{strength_of}
 use Rattle.apart.proofs.crowd.crowded_page.Given as goal
 
 abbrev pub invariant-loop-b : goal.invariant-loop-b
-invariant-loop-b l = (l.b ≤ l.n) × NoneOf (crowded (frame_of l.f l.words) l.words l.slots (strength_of l.s)) 0 (l.b * block_pages)
-
-abbrev pub decreases-loop-b : goal.decreases-loop-b
-decreases-loop-b l = l.n - l.b
+invariant-loop-b l = NoneOf (crowded (frame_of l.f l.words) l.words l.slots (strength_of l.s)) 0 (l.b * block_pages)

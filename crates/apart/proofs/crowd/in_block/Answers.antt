@@ -1,19 +1,20 @@
 -- `apart::crowd::in_block` meets its contract: what was gathered says which pages are crowded.
+use mathlib.Core.Path.{sym, ◌∙◌}
 use Prim.Native.Nat.{◌*◌, ◌/◌, ◌<◌}
 use native.Mathlib.Omega.{arith}
 use Rattle.model.specs.Layout.{block_pages}
-use Rattle.sharing.proofs.CrowdLaws.{crowd_gathered, crowd_even, crowd_alone}
-use Rattle.sharing.proofs.FirstLaws.{none_at_all, first_there}
-use Rattle.table.specs.Board.{PIECES, PIECE-PAGES, frame_of}
+use Rattle.sharing.proofs.CrowdLaws.{full_first, crowd_gathered, crowd_even, crowd_alone}
+use Rattle.sharing.proofs.FirstLaws.{none_at_all, found_there}
+use Rattle.table.specs.Board.{board, PIECES, PIECE-PAGES, frame_of}
 use Rattle.types.specs.Views.{strength_of}
 use Rattle.apart.proofs.crowd.in_block.Goals as goal
 
-pub returns-then-count-eq0 : goal.returns-then-count-eq0
-returns-then-count-eq0 c =
+pub returns-then-shares-eq0 : goal.returns-then-shares-eq0
+returns-then-shares-eq0 c =
     let a = c.args in
     let h = c.gather-shares.ensures in
-    first_there _ _ (a.b * block_pages) block_pages _
-    (λ k u. crowd_even (frame_of a.f a.words.now) a.words.now a.slots (strength_of a.s) a.b c.gather-shares.result h c.if-count-eq0.true k u)
+    found_there _ _ (a.b * block_pages) block_pages _
+    (λ k u. crowd_even (frame_of a.f a.words.now) a.words.now a.slots (strength_of a.s) a.b c.gather-shares.result h c.if-shares-eq0.true k u)
     (c.in_pieces.ensures h.opened h.reached h.even)
 
 pub returns-then-alone : goal.returns-then-alone
@@ -28,7 +29,10 @@ returns-then-alone c =
 pub returns : goal.returns
 returns c =
     let a = c.args in
+    let m = a.words.now in
+    let s = strength_of a.s in
+    let r = c.gather-shares.result in
     let h = c.gather-shares.ensures in
-    first_there _ _ (a.b * block_pages) block_pages _
-    (λ k u. crowd_gathered (frame_of a.f a.words.now) a.words.now a.slots (strength_of a.s) a.b c.gather-shares.result h k u)
+    found_there _ _ (a.b * block_pages) block_pages _
+    (λ k u. crowd_gathered (frame_of a.f m) m a.slots s a.b r h k u ∙ sym (full_first board m r.tables s r.count _ _ k (omega (arith, h.size, h.few))))
     (c.in_tables.ensures h.opened h.reached h.even)

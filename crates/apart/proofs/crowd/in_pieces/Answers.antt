@@ -39,5 +39,8 @@ unfolding bit
 returns c =
     let r = c.lowest_bit.result in
     let lane = piece_lane r c.lowest_bit.ensures.within (c.crowds-found.ensures.0 r (ap (λ (x : ℕ). eqb x 1) c.lowest_bit.ensures.is_set)) in
-    λ opened reached h. by_pages (λ j. is_crowd (opened j) (reached j)) (r / 2) (first_lane 2 PIECES c.crowds-found.result 0 _ (low (goal.at.returns c).After-crowds-found opened reached h) r (r / 2) (omega (arith, lane.0)) lane.1
-    (ap (λ (x : ℕ). eqb x 1) c.lowest_bit.ensures.is_set) (λ j u. ap (λ (x : ℕ). eqb x 1) (c.lowest_bit.ensures.below j u)) (λ j u. omega arith))
+    λ opened reached h. (
+      omega (arith, lane.1),
+      by_pages (λ j. is_crowd (opened j) (reached j)) (r / 2) (first_lane 2 PIECES c.crowds-found.result 0 _ (low (goal.at.returns c).After-crowds-found opened reached h) r (r / 2) (omega (arith, lane.0)) lane.1
+          (ap (λ (x : ℕ). eqb x 1) c.lowest_bit.ensures.is_set) (λ j u. ap (λ (x : ℕ). eqb x 1) (c.lowest_bit.ensures.below j u)) (λ j u. omega arith)),
+    )

@@ -1,7 +1,8 @@
 -- `apart::crowd::in_tables` meets its contract: the invariant: no page of the pieces passed is crowded.
 use mathlib.Core.Bool.{Bool}
 use mathlib.Core.List.{List}
-use Prim.Native.Nat.{ℕ, ◌*◌, ◌-◌, ◌/◌, ◌≤◌, ◌<◌}
+use Prim.Native.Nat.{ℕ, ◌*◌, ◌/◌, ◌<◌}
+use lib.ListN.{length}
 use Rattle.model.specs.Apart.{Strength}
 use Rattle.sharing.specs.Crowds.{full_at}
 use Rattle.sharing.specs.Masks.{Counted}
@@ -16,9 +17,5 @@ test words tables s count opened reached q = full_at board words tables s count 
 
 abbrev pub invariant-loop-i : goal.invariant-loop-i
 invariant-loop-i l =
-    (l.i ≤ PIECES)
-    × ((opened reached : ℕ → ℕ) → ((j : ℕ) → j < PIECES → Counted l.even (2 * j) (opened j) (reached j))
-    → NoneOf (test l.words l.tables (strength_of l.s) l.count opened reached) 0 (l.i * PIECE-PAGES))
-
-abbrev pub decreases-loop-i : goal.decreases-loop-i
-decreases-loop-i l = PIECES - l.i
+    (opened reached : ℕ → ℕ) → ((j : ℕ) → j < PIECES → Counted l.even (2 * j) (opened j) (reached j))
+    → NoneOf (test l.words l.tables (strength_of l.s) (length l.tables) opened reached) 0 (l.i * PIECE-PAGES)

@@ -1,7 +1,7 @@
 -- `apart::who::pair_fault` meets its contract: the invariant: no slot passed is the lower of two that share the page so.
 use mathlib.Core.Bool.{Bool}
 use mathlib.Core.List.{List}
-use Prim.Native.Nat.{ℕ, ◌-◌, ◌≤◌}
+use Prim.Native.Nat.{ℕ}
 use Rattle.model.specs.Apart.{Strength}
 use Rattle.model.specs.Frame.{Frame}
 use Rattle.model.specs.Sound.{Slot}
@@ -16,7 +16,4 @@ abbrev pub test : Frame → List ℕ → List Slot → Strength → ℕ → ℕ 
 test F m slots s page i = some (row F m slots s page i)
 
 abbrev pub invariant-loop-i : goal.invariant-loop-i
-invariant-loop-i l = (l.i ≤ 8) × NoneOf (test (frame_of l.f l.words) l.words l.slots (strength_of l.s) l.page.0) 0 l.i
-
-abbrev pub decreases-loop-i : goal.decreases-loop-i
-decreases-loop-i l = 8 - l.i
+invariant-loop-i l = NoneOf (test (frame_of l.f l.words) l.words l.slots (strength_of l.s) l.page.0) 0 l.i

@@ -26,18 +26,16 @@ pub loop-j-init : goal.loop-j-init
 loop-j-init c =
     let a = c.args in (
       omega arith,
-      omega (arith, c.requires.1),
       λ k u.
           pair_meets (frame_of a.f a.words.now) a.words.now a.slots (strength_of a.s) a.page.0 a.i (0 + k) ∙ rw (le-ltb a.i (0 + k) (omega arith)) refl,
     )
 
 pub returns-then-meets : goal.returns-then-meets
-returns-then-meets c = found_next _ c.loop-j.j c.loop-j.invariant.2 8 (omega arith) (here (goal.at.returns-then-meets c).After-meets ∙ c.if-meets.true)
+returns-then-meets c = found_next _ c.loop-j.j c.loop-j.invariant.1 8 c.loop-j-test.true (here (goal.at.returns-then-meets c).After-meets ∙ c.if-meets.true)
 
 pub loop-j-preserved : goal.loop-j-preserved
 loop-j-preserved c =
     let a = c.args in (
       omega (arith, c.loop-j.invariant.0),
-      omega arith,
-      none_one (test (frame_of a.f a.words.now) a.words.now a.slots (strength_of a.s) a.page.0 a.i) c.loop-j.j c.loop-j.invariant.2 (here (goal.at.loop-j-preserved c).After-meets ∙ c.if-meets.false),
+      none_one (test (frame_of a.f a.words.now) a.words.now a.slots (strength_of a.s) a.page.0 a.i) c.loop-j.j c.loop-j.invariant.1 (here (goal.at.loop-j-preserved c).After-meets ∙ c.if-meets.false),
     )

@@ -1,7 +1,7 @@
 -- `apart::who::partner` meets its contract: the invariant: no slot passed shares the page so.
 use mathlib.Core.Bool.{Bool}
 use mathlib.Core.List.{List}
-use Prim.Native.Nat.{ℕ, ◌-◌, ◌≤◌, ◌<◌}
+use Prim.Native.Nat.{ℕ, ◌<◌}
 use Rattle.model.specs.Apart.{Strength, pair_fault}
 use Rattle.model.specs.Frame.{Frame}
 use Rattle.model.specs.Sound.{Slot}
@@ -15,7 +15,4 @@ abbrev pub test : Frame → List ℕ → List Slot → Strength → ℕ → ℕ 
 test F m slots s page i j = some (pair_fault F m slots s page i j)
 
 abbrev pub invariant-loop-j : goal.invariant-loop-j
-invariant-loop-j l = (l.i < l.j) × (l.j ≤ 8) × NoneOf (test (frame_of l.f l.words) l.words l.slots (strength_of l.s) l.page.0 l.i) 0 l.j
-
-abbrev pub decreases-loop-j : goal.decreases-loop-j
-decreases-loop-j l = 8 - l.j
+invariant-loop-j l = (l.i < l.j) × NoneOf (test (frame_of l.f l.words) l.words l.slots (strength_of l.s) l.page.0 l.i) 0 l.j

@@ -1,7 +1,6 @@
 -- `apart::who::reached_by` meets its contract: the invariant: no slot passed reaches the page.
 use mathlib.Core.Path.{◌≡◌, sym, ap, ◌∙◌}
 use Prim.Native.Nat.{ℕ}
-use native.Mathlib.Omega.{arith}
 use Rattle.model.specs.Calls.{slot_at}
 use Rattle.model.specs.Entry.{perm}
 use Rattle.sharing.specs.Crowds.{reach_of}
@@ -23,9 +22,9 @@ here c =
     ∙ ap (λ (p : ℕ). reach_of (strength_of a.s) (perm p)) (sym c.has.ensures) ∙ sym c.reaches.ensures
 
 pub returns-then-reaches : goal.returns-then-reaches
-returns-then-reaches c = found_next _ c.loop-i.i c.loop-i.invariant.1 8 (omega arith) (here (goal.at.returns-then-reaches c).After-reaches ∙ c.if-reaches.true)
+returns-then-reaches c = found_next _ c.loop-i.i c.loop-i.invariant 8 c.loop-i-test.true (here (goal.at.returns-then-reaches c).After-reaches ∙ c.if-reaches.true)
 
 pub loop-i-preserved : goal.loop-i-preserved
 loop-i-preserved c =
     let a = c.args in
-    (omega arith, none_one (test (frame_of a.f a.words.now) a.words.now a.slots (strength_of a.s) a.page.0) c.loop-i.i c.loop-i.invariant.1 (here (goal.at.loop-i-preserved c).After-reaches ∙ c.if-reaches.false))
+    none_one (test (frame_of a.f a.words.now) a.words.now a.slots (strength_of a.s) a.page.0) c.loop-i.i c.loop-i.invariant (here (goal.at.loop-i-preserved c).After-reaches ∙ c.if-reaches.false)

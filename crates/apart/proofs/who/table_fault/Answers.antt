@@ -11,17 +11,17 @@ use Rattle.table.specs.Board.{frame_of}
 use Rattle.types.specs.Views.{strength_of}
 use Rattle.apart.proofs.who.table_fault.Goals as goal
 
-pub returns-then-i-lt8 : goal.returns-then-i-lt8
-unfolding slot_at
-returns-then-i-lt8 c =
+pub returns-in_default : goal.returns-in_default
+unfolding head_d
+returns-in_default c =
     let a = c.args in
     let F = frame_of a.f a.words.now in
-    ap (table_open a.page.0 c.reached_by-i.result) (c.writes.ensures ∙ ap (λ (p : ℕ). grants (perm p) write) c.has.ensures)
-    ∙ sym (table_some F a.words.now a.slots (strength_of a.s) a.page.0 c.requires.1 c.reached_by-i.result c.reached_by-i.ensures c.if-i-lt8.true).1
+    sym (ap (λ (l : List Separation). head_d l apart) (table_none F a.words.now a.slots (strength_of a.s) a.page.0 c.requires.1 c.in_default.ensures))
 
 pub returns : goal.returns
-unfolding head_d
+unfolding slot_at
 returns c =
     let a = c.args in
     let F = frame_of a.f a.words.now in
-    sym (ap (λ (l : List Separation). head_d l apart) (table_none F a.words.now a.slots (strength_of a.s) a.page.0 c.requires.1 c.reached_by-i.result c.reached_by-i.ensures c.if-i-lt8.false))
+    ap (table_open a.page.0 c.in-Some.i) (c.writes.ensures ∙ ap (λ (p : ℕ). grants (perm p) write) c.has.ensures)
+    ∙ sym (table_some F a.words.now a.slots (strength_of a.s) a.page.0 c.requires.1 c.in-Some.i c.in-Some.ensures.0 c.in-Some.ensures.1).1

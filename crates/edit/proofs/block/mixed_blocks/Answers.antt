@@ -1,5 +1,6 @@
 -- `edit::block::mixed_blocks` meets its contract: outside the range a block without an L1 page has one entry to store, so the row's stores are its
 -- blocks'; if the first one has such a page, nothing was stored yet, and that block is stored alone.
+use Rattle.std.specs.Prelude.{None}
 use mathlib.Core.Path.{◌≡◌, sym, ap, ◌∙◌, subst}
 use mathlib.Core.List.{List, head_d}
 use Prim.Native.Nat.{ℕ, ◌+◌, ◌-◌, ◌%◌, ◌^◌, ◌≤◌, ◌<◌}
@@ -15,7 +16,6 @@ use Rattle.shapes.proofs.Order.{ahead_of}
 use Rattle.shapes.specs.Rows.{row_stores, word_as_pieces, PiecesAhead}
 use Rattle.shapes.specs.Run.{run}
 use Rattle.shapes.proofs.Places.{place}
-use Rattle.types.specs.Range.{Fair}
 use Rattle.model.specs.Frame.{blocks, index_of}
 use Rattle.model.specs.Stores.{Store}
 use Rattle.shapes.specs.Rooted.{Rooted}
@@ -30,7 +30,7 @@ nothing : (c : Then-row-eq0) → c.pieces_row-row.new.words ≡ c.args.words.now
 nothing c =
     let a = c.args in
     let r = c.pieces_row-row in
-    row_none (word_as_pieces board) a.words.now a.left _ r.result.count c.if-row-eq0.true r.result.all r.result.left r.new.words r.ensures.2
+    row_none (word_as_pieces board) a.words.now a.left _ r.result.count c.if-row-eq0.true r.result.left r.new.words r.ensures.2
 
 -- how many blocks lie outside the range, from b on
 abbrev outside : (p : After-page_at) → ℕ
@@ -41,25 +41,25 @@ abbrev NoTable : (p : After-page_at) → ℕ → Type 0
 NoTable p n = let a = p.args in (k : ℕ) → p.page_at.result + a.b ≤ k → k < p.page_at.result + a.b + n → word_as_pieces board (get_or a.words.now k 0) ≡ 0 → ⊥
 
 entries_here : (p : After-page_at) (n : ℕ) → let a = p.args in
-    n ≤ outside p → NoTable p n → (x : ℕ) → a.b ≤ x → x < a.b + n → Entrywise (frame_of a.edit.f a.words.now) a.words.now (request_of a.edit.q) a.edit.root.0 a.gib (word_as_pieces board) x
+    n ≤ outside p → NoTable p n → (x : ℕ) → a.b ≤ x → x < a.b + n → Entrywise (frame_of a.edit.f a.words.now) a.words.now (request_of a.edit.q) a.edit.root.0 None (word_as_pieces board) x
 entries_here p n few some x lo hi =
     let a = p.args in
     let m = a.words.now in
     let F = frame_of a.edit.f m in
     let k : p.page_at.result + x ≡ index_of F a.edit.root.0 x = place F a.edit.root.0 x _ p.page_at.ensures.0 in
-    pieces_entry F m (request_of a.edit.q) a.edit.root.0 a.gib board_shape p.requires.2.small p.requires.6 p.requires.0.is_lent x (p.requires.0.good x (omega (arith, p.requires.1, p.blocks_outside-n.ensures.0)))
+    pieces_entry F m (request_of a.edit.q) a.edit.root.0 board_shape a.edit.fair.small p.requires.0.is_lent x (p.requires.0.good x (omega (arith, p.requires.1, p.blocks_outside-n.ensures.0)))
     (λ y l u. p.blocks_outside-n.ensures.1 y (omega arith) (omega arith))
     (subst (λ (y : ℕ). word_as_pieces board (get_or m y 0) ≡ 0 → ⊥) k (some _ (omega arith) (omega arith)))
 
 row_here : (p : After-page_at) (n : ℕ) → let a = p.args in n ≤ outside p → NoTable p n
     → row_stores a.words.now (word_as_pieces board) n (p.page_at.result + a.b)
-    ≡ stores_over (frame_of a.edit.f a.words.now) a.words.now (request_of a.edit.q) a.edit.root.0 a.gib n a.b (drop a.next (free_list a.free))
+    ≡ stores_over (frame_of a.edit.f a.words.now) a.words.now (request_of a.edit.q) a.edit.root.0 None n a.b (drop a.next (free_list a.free))
 row_here p n few some =
     let a = p.args in
     let m = a.words.now in
     let F = frame_of a.edit.f m in
     ap (row_stores m (word_as_pieces board) n) (place F a.edit.root.0 a.b _ p.page_at.ensures.0)
-    ∙ sym (row_stores_lem F m (request_of a.edit.q) a.edit.root.0 a.gib (word_as_pieces board) n a.b (drop a.next (free_list a.free)) (entries_here p n few some))
+    ∙ sym (row_stores_lem F m (request_of a.edit.q) a.edit.root.0 None (word_as_pieces board) n a.b (drop a.next (free_list a.free)) (entries_here p n few some))
 
 pub pieces_row-row-requires : goal.pieces_row-row-requires
 pieces_row-row-requires c =
@@ -67,22 +67,22 @@ pieces_row-row-requires c =
     let m = a.words.now in
     let F = frame_of a.edit.f m in
     let next : PiecesAhead board m (outside (goal.at.pieces_row-row-requires c).After-page_at) (c.page_at.result + a.b)
-    = λ k few some. ahead_of (sym (row_here (goal.at.pieces_row-row-requires c).After-page_at k few some)) (ahead_over F m (request_of a.edit.q) a.edit.root.0 a.gib k (32 - a.b % 32) a.b (drop a.next (free_list a.free)) (omega (arith, c.blocks_outside-n.ensures.0)) c.requires.7) in
+    = λ k few some. ahead_of (sym (row_here (goal.at.pieces_row-row-requires c).After-page_at k few some)) (ahead_over F m (request_of a.edit.q) a.edit.root.0 None k (32 - a.b % 32) a.b (drop a.next (free_list a.free)) (omega (arith, c.blocks_outside-n.ensures.0)) c.requires.4) in
     search rules
 
 pub one_block-requires : goal.one_block-requires
 one_block-requires c =
     let a = c.args in
     subst
-    (λ (x : List ℕ). Rooted (frame_of a.edit.f x) x a.edit.root.0 × (a.b < blocks (frame_of a.edit.f x)) × Fair a.edit.q × (a.gib.p < 4) × (a.next < 2 ^ 32)
-    × HasNewPage (frame_of a.edit.f x) x (request_of a.edit.q) a.edit.root.0 a.gib a.b (head_d (drop a.next (free_list a.free)) 0)
-    × Ahead x (stores_over (frame_of a.edit.f x) x (request_of a.edit.q) a.edit.root.0 a.gib 1 a.b (drop a.next (free_list a.free))))
-    (sym (nothing (goal.at.one_block-requires c).Then-row-eq0)) (c.requires.0, omega (arith, c.requires.1), c.requires.2, c.requires.3, c.requires.4, c.requires.5, ahead_over _ _ _ _ _ 1 (32 - a.b % 32) a.b _ (omega arith) c.requires.7)
+    (λ (x : List ℕ). Rooted (frame_of a.edit.f x) x a.edit.root.0 × (a.b < blocks (frame_of a.edit.f x)) × (a.next < 2 ^ 32)
+    × HasNewPage (frame_of a.edit.f x) x (request_of a.edit.q) a.edit.root.0 None a.b (head_d (drop a.next (free_list a.free)) 0)
+    × Ahead x (stores_over (frame_of a.edit.f x) x (request_of a.edit.q) a.edit.root.0 None 1 a.b (drop a.next (free_list a.free))))
+    (sym (nothing (goal.at.one_block-requires c).Then-row-eq0)) (c.requires.0, omega (arith, c.requires.1), c.requires.2, c.requires.3, ahead_over _ _ _ _ None 1 (32 - a.b % 32) a.b (drop a.next (free_list a.free)) (omega arith) c.requires.4)
 
 pub returns-then-row-eq0 : goal.returns-then-row-eq0
 returns-then-row-eq0 c =
     let a = c.args in
-    subst (λ (x : List ℕ). Advanced (frame_of a.edit.f x) x (request_of a.edit.q) a.edit.root.0 a.gib a.b (free_list a.free) a.next a.left c.one_block.result c.one_block.new.words)
+    subst (λ (x : List ℕ). Advanced (frame_of a.edit.f x) x (request_of a.edit.q) a.edit.root.0 None a.b (free_list a.free) a.next a.left c.one_block.result c.one_block.new.words)
     (nothing (goal.at.returns-then-row-eq0 c).Then-row-eq0) c.one_block.ensures
 
 pub returns : goal.returns
@@ -94,7 +94,7 @@ returns c =
     let n = r.result.count in
     record {
       made = r.ensures.2 ∙ ap (λ (ss : List Store). run a.left ss m) (row_here (goal.at.returns c).After-page_at n r.ensures.0 r.ensures.1);
-      pages = omega (arith, row_pages F m (request_of a.edit.q) a.edit.root.0 a.gib (word_as_pieces board) n a.b (entries_here (goal.at.returns c).After-page_at n r.ensures.0 r.ensures.1));
+      pages = omega (arith, row_pages F m (request_of a.edit.q) a.edit.root.0 None (word_as_pieces board) n a.b (entries_here (goal.at.returns c).After-page_at n r.ensures.0 r.ensures.1));
       some = omega (arith, c.if-row-eq0.false);
       within = omega (arith, c.blocks_outside-n.ensures.0, r.ensures.0);
     }

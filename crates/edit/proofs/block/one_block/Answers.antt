@@ -1,7 +1,7 @@
 -- `edit::block::one_block` meets its contract: the form, the page and the stores that the code takes are those of the block.
-use Rattle.std.specs.Prelude.{if◌then◌else◌}
+use Rattle.std.specs.Prelude.{if◌then◌else◌, None}
 use mathlib.Core.Path.{◌≡◌, sym, ap, ap₂, ◌∙◌, subst}
-use mathlib.Core.Bool.{true}
+use mathlib.Core.Bool.{true, false}
 use mathlib.Core.List.{List}
 use Prim.Native.Nat.{ℕ, ◌+◌, ◌<◌, ◌^◌}
 use native.Mathlib.Omega.{arith}
@@ -19,62 +19,52 @@ use Rattle.types.specs.Views.{entry_of, request_of, form_of, free_list}
 use Rattle.shapes.specs.Rooted.{Good}
 use Rattle.table.specs.Board.{board, frame_of}
 use Rattle.edit.proofs.block.one_block.Goals as goal
-use Rattle.edit.proofs.block.one_block.Goals.{After-block_form-form, After-entry_at-e, After-page_from-new}
+use Rattle.edit.proofs.block.one_block.Goals.{After-page_from-new}
 
-good_here : (c : After-entry_at-e) → let a = c.args in Good (frame_of a.edit.f a.words.now) a.words.now (entry_of c.entry_at-e.result)
-good_here c =
-    subst (Good (frame_of c.args.edit.f c.args.words.now) c.args.words.now) (sym c.entry_at-e.ensures.0) (c.requires.0.good c.args.b c.requires.1)
+good_here : (p : After-page_from-new) → let a = p.args in Good (frame_of a.edit.f a.words.now) a.words.now (entry_of p.entry_at-e.result)
+good_here p = let a = p.args in subst (Good (frame_of a.edit.f a.words.now) a.words.now) (sym p.entry_at-e.ensures.0) (p.requires.0.good a.b p.requires.1)
 
-form_here : (c : After-block_form-form) → let a = c.args in
-    form_of c.block_form-form.result ≡ form_in_gib (frame_of a.edit.f a.words.now) a.words.now (request_of a.edit.q) a.edit.root.0 a.gib a.b
-form_here c =
-    let a = c.args in
-    c.block_form-form.ensures
-    ∙ ap (λ (e : Entry). form_in (frame_of a.edit.f a.words.now) a.words.now (request_of a.edit.q) a.gib.one a.gib.p e a.b) c.entry_at-e.ensures.0
-
-form_here_at_after_page_from_new : (c : After-page_from-new) → let a = c.args in
-    form_of c.block_form-form.result ≡ form_in_gib (frame_of a.edit.f a.words.now) a.words.now (request_of a.edit.q) a.edit.root.0 a.gib a.b
-form_here_at_after_page_from_new c =
-    let a = c.args in
-    c.block_form-form.ensures
-    ∙ ap (λ (e : Entry). form_in (frame_of a.edit.f a.words.now) a.words.now (request_of a.edit.q) a.gib.one a.gib.p e a.b) c.entry_at-e.ensures.0
+form_here : (p : After-page_from-new) → let a = p.args in
+    form_of p.block_form-form.result ≡ form_in_gib (frame_of a.edit.f a.words.now) a.words.now (request_of a.edit.q) a.edit.root.0 None a.b
+form_here p =
+    let a = p.args in
+    p.block_form-form.ensures ∙ ap (λ (e : Entry). form_in (frame_of a.edit.f a.words.now) a.words.now (request_of a.edit.q) false 0 e a.b) p.entry_at-e.ensures.0
 
 -- the stores that the code makes are those of the block
 block_here : (p : After-page_from-new) → let a = p.args in
     block_stores (frame_of a.edit.f a.words.now) a.words.now (request_of a.edit.q) a.edit.root.0 (form_of p.block_form-form.result) (entry_of p.entry_at-e.result) a.b p.page_from-new.result.0
-    ≡ stores_over (frame_of a.edit.f a.words.now) a.words.now (request_of a.edit.q) a.edit.root.0 a.gib 1 a.b (drop a.next (free_list a.free))
+    ≡ stores_over (frame_of a.edit.f a.words.now) a.words.now (request_of a.edit.q) a.edit.root.0 None 1 a.b (drop a.next (free_list a.free))
 block_here p =
     let a = p.args in
     let F = frame_of a.edit.f a.words.now in
-    ap₂ (λ (x : Form) (e : Entry). block_stores F a.words.now (request_of a.edit.q) a.edit.root.0 x e a.b p.page_from-new.result.0) (form_here_at_after_page_from_new p) p.entry_at-e.ensures.0
-    ∙ ap (stores_in_gib F a.words.now (request_of a.edit.q) a.edit.root.0 a.gib a.b) p.page_from-new.ensures
-    ∙ sym (over_one F a.words.now (request_of a.edit.q) a.edit.root.0 a.gib a.b (drop a.next (free_list a.free)))
+    ap₂ (λ (x : Form) (e : Entry). block_stores F a.words.now (request_of a.edit.q) a.edit.root.0 x e a.b p.page_from-new.result.0) (form_here p) p.entry_at-e.ensures.0
+    ∙ ap (stores_in_gib F a.words.now (request_of a.edit.q) a.edit.root.0 None a.b) p.page_from-new.ensures
+    ∙ sym (over_one F a.words.now (request_of a.edit.q) a.edit.root.0 None a.b (drop a.next (free_list a.free)))
 
-pub store_block-progress-requires : goal.store_block-progress-requires
-store_block-progress-requires c =
-    let a = c.args in (
-      omega (arith, c.requires.0.few, c.requires.1),
-      c.requires.2,
-      good_here (goal.at.store_block-progress-requires c).After-entry_at-e,
+pub store_block-requires : goal.store_block-requires
+store_block-requires c =
+    let a = c.args in
+    let p = (goal.at.store_block-requires c).After-page_from-new in (
+      good_here p,
       c.requires.0.is_lent,
-      λ z. let y = c.requires.5 (sym (ap₂ (λ (x : Form) (e : Entry). needs_page x e) (form_here (goal.at.store_block-progress-requires c).After-block_form-form) c.entry_at-e.ensures.0) ∙ z) in
+      λ z. let y = c.requires.3 (sym (ap₂ (λ (x : Form) (e : Entry). needs_page x e) (form_here p) c.entry_at-e.ensures.0) ∙ z) in
           subst (λ (n : ℕ). (lent (frame_of a.edit.f a.words.now) n ≡ true) × (n < 2 ^ board.info_bits)) (sym c.page_from-new.ensures) y,
       subst (Encodes board) (sym c.block_form-form.ensures)
-          (form_encodes (frame_of a.edit.f a.words.now) board_shape a.words.now (request_of a.edit.q) c.requires.2.small (entry_of c.entry_at-e.result) (good_here (goal.at.store_block-progress-requires c).After-entry_at-e) a.gib.one a.gib.p a.b c.requires.3),
-      ahead_of (sym (block_here (goal.at.store_block-progress-requires c).After-page_from-new)) c.requires.6,
+          (form_encodes (frame_of a.edit.f a.words.now) board_shape a.words.now (request_of a.edit.q) a.edit.fair.small (entry_of c.entry_at-e.result) (good_here p) false 0 a.b (omega arith)),
+      ahead_of (sym (block_here p)) c.requires.4,
     )
 
 pub returns : goal.returns
 returns c =
     let a = c.args in
     let F = frame_of a.edit.f a.words.now in
+    let p = (goal.at.returns c).After-page_from-new in
     record {
-      made =
-          c.store_block-progress.ensures ∙ ap (λ (ss : List Store). run a.left ss a.words.now) (block_here (goal.at.returns c).After-page_from-new);
+      made = c.store_block.ensures ∙ ap (λ (ss : List Store). run a.left ss a.words.now) (block_here p);
       pages =
-          c.next_page-after.ensures
-          ∙ ap₂ (λ (x : Form) (e : Entry). if needs_page x e then a.next + 1 else a.next) (form_here (goal.at.returns c).After-block_form-form) c.entry_at-e.ensures.0
-          ∙ sym (pages_one F a.words.now (request_of a.edit.q) a.edit.root.0 a.gib a.b a.next);
+          c.next_page.ensures
+          ∙ ap₂ (λ (x : Form) (e : Entry). if needs_page x e then a.next + 1 else a.next) (form_here p) c.entry_at-e.ensures.0
+          ∙ sym (pages_one F a.words.now (request_of a.edit.q) a.edit.root.0 None a.b a.next);
       some = omega arith;
       within = omega arith;
     }

@@ -7,12 +7,12 @@ use Rattle.edit.proofs.block.store_block.Goals as goal
 pub put_entry-requires : goal.put_entry-requires
 unfolding block_stores encode
 put_entry-requires c =
-    (c.requires.0, c.requires.3, rw c.narrow.ensures (rw c.in-Flat.is at c.requires.6))
+    (c.args.block.inside, c.requires.1, rw c.narrow.ensures (rw c.in-Flat.is at c.requires.4))
 
 pub put_entry-requires-in-Pieces : goal.put_entry-requires-in-Pieces
 unfolding block_stores encode
 put_entry-requires-in-Pieces c =
-    (c.requires.0, c.requires.3, rw c.narrow-in-Pieces.ensures (rw c.in-Pieces.is at c.requires.6))
+    (c.args.block.inside, c.requires.1, rw c.narrow-in-Pieces.ensures (rw c.in-Pieces.is at c.requires.4))
 
 pub returns-in-Flat : goal.returns-in-Flat
 unfolding block_stores encode

@@ -1,184 +1,84 @@
--- `entries::fresh::fill_page` meets its contract: three runs of entries, below the range, at it and above, are the page.
-use mathlib.Core.Path.{◌≡◌, refl, sym, ap, ◌∙◌}
-use mathlib.Core.List.{List, ◌++◌}
+-- `entries::fresh::fill_page` meets its contract: after each of its three runs of entries, below the range, at it and above, those that are left
+-- decide the whole page (`New`).
+use mathlib.Core.List.{List}
 use Prim.Native.Nat.{ℕ, ◌-◌}
-use lib.ListN.{length}
 use native.Mathlib.Omega.{arith}
+use Rattle.model.specs.Stores.{new_table}
+use Rattle.shapes.specs.Ahead.{Ahead}
+use Rattle.shapes.proofs.NewPage.{New, new_start, new_until, new_ahead, new_cut, new_rest, new_good, new_lent}
 use Rattle.table.specs.Board.{PAGE-WORDS, frame_of, frame_over}
-use Rattle.shapes.specs.Pages.{new_run}
-use Rattle.shapes.proofs.NewPage.{run_same}
-use Rattle.shapes.proofs.PageLaws.{run_parts}
-use Rattle.shapes.proofs.Order.{ahead_of, Remaining, remaining_start, remaining_ahead, remaining_next, remaining_cut}
-use Rattle.shapes.proofs.Places.{lent_same, good_same}
-use Rattle.shapes.proofs.RunLaws.{progress_all, progress_cut}
-use Rattle.shapes.specs.Run.{out, run}
-use Rattle.types.specs.declared.Budget.{Budget}
-use Rattle.model.specs.Stores.{Store, new_table}
 use Rattle.types.specs.Views.{entry_of, request_of}
+use Rattle.types.specs.declared.Budget.{Budget}
+use Rattle.types.specs.declared.Edit.{Edit}
+use Rattle.entries.proofs.Needs.{plain}
+use Rattle.entries.specs.declared.new_page.NewPage.{NewPage}
 use Rattle.entries.proofs.fresh.fill_page.Goals as goal
-use Rattle.entries.proofs.fresh.fill_page.Goals.{After-near_end-to, After-new_entries-near, Else-not-below, Else-not-near}
+use Rattle.entries.proofs.fresh.fill_page.Goals.{In_ok-below}
 
--- the stores of the entries from i on, as many as n; and of the whole page
-abbrev part : (n : After-near_end-to) → ℕ → ℕ → List Store
-part n count i = let a = n.args in new_run (frame_of a.edit.f a.words.now) a.words.now (request_of a.edit.q) (entry_of a.new.e) a.new.b a.new.page.0 count i
+-- the page's entries before place i are stored
+abbrev Stored : Edit → List ℕ → NewPage → Budget → List ℕ → Budget → ℕ → Type 0
+Stored edit m0 new left m more i = New (frame_over edit.f) (request_of edit.q) (entry_of new.block.e) new.block.b new.page.0 m0 left 0 PAGE-WORDS m more i
 
-abbrev On : (n : After-near_end-to) → Budget → List ℕ → List Store → Type 0
-On n more m rest = let a = n.args in Remaining a.left a.words.now (new_table (frame_of a.edit.f a.words.now) a.words.now (request_of a.edit.q) (entry_of a.new.e) a.new.b a.new.page.0) more m rest
+none : (edit : Edit) (m : List ℕ) (new : NewPage) (left : Budget)
+    → Ahead m (new_table (frame_of edit.f m) m (request_of edit.q) (entry_of new.block.e) new.block.b new.page.0) → Stored edit m new left m left 0
+unfolding new_table
+none edit m new left next = new_start (plain (entry_of new.block.e) new.needs) (omega arith) next
 
-abbrev from' : (n : After-near_end-to) → ℕ
-from' n = n.first_entry-from.result
-
-abbrev to' : (n : After-near_end-to) → ℕ
-to' n = n.near_end-to.result
-
--- the same stores follow from the memory that stands
-same_part : (n : After-near_end-to) (m : List ℕ) → let a = n.args in length m ≡ length a.words.now → (count i : ℕ)
-    → new_run (frame_of a.edit.f m) m (request_of a.edit.q) (entry_of a.new.e) a.new.b a.new.page.0 count i ≡ part n count i
-same_part n m len count i =
-    let a = n.args in
-    run_same (frame_over a.edit.f) (request_of a.edit.q) (entry_of a.new.e) a.new.b a.new.page.0 m a.words.now n.requires.4 len count i
-
--- before the first part, the second and the third
-first : (n : After-near_end-to) → let a = n.args in On n a.left a.words.now (part n (from' n - 0) 0 ++ (part n (to' n - from' n) (from' n) ++ part n (PAGE-WORDS - to' n) (to' n)))
-first n =
-    let a = n.args in
-    remaining_start (run_parts (frame_of a.edit.f a.words.now) a.words.now (request_of a.edit.q) (entry_of a.new.e) a.new.b a.new.page.0 (from' n) (to' n) n.near_end-to.ensures.0 n.near_end-to.ensures.1) n.requires.5
-
-abbrev On-at-Else-not-below : (n : Else-not-below) → Budget → List ℕ → List Store → Type 0
-On-at-Else-not-below n more m rest = let a = n.args in Remaining a.left a.words.now (new_table (frame_of a.edit.f a.words.now) a.words.now (request_of a.edit.q) (entry_of a.new.e) a.new.b a.new.page.0) more m rest
-
--- the stores of the entries from i on, as many as n; and of the whole page
-abbrev part_at_else_not_below : (n : Else-not-below) → ℕ → ℕ → List Store
-part_at_else_not_below n count i = let a = n.args in new_run (frame_of a.edit.f a.words.now) a.words.now (request_of a.edit.q) (entry_of a.new.e) a.new.b a.new.page.0 count i
-
-abbrev to'_at_else_not_below : (n : Else-not-below) → ℕ
-to'_at_else_not_below n = n.near_end-to.result
-
-abbrev from'_at_else_not_below : (n : Else-not-below) → ℕ
-from'_at_else_not_below n = n.first_entry-from.result
-
--- before the first_at_else_not_below part, the second and the third
-first_at_else_not_below : (n : Else-not-below) → let a = n.args in On-at-Else-not-below n a.left a.words.now (part_at_else_not_below n (from'_at_else_not_below n - 0) 0 ++ (part_at_else_not_below n (to'_at_else_not_below n - from'_at_else_not_below n) (from'_at_else_not_below n) ++ part_at_else_not_below n (PAGE-WORDS - to'_at_else_not_below n) (to'_at_else_not_below n)))
-first_at_else_not_below n =
-    let a = n.args in
-    remaining_start (run_parts (frame_of a.edit.f a.words.now) a.words.now (request_of a.edit.q) (entry_of a.new.e) a.new.b a.new.page.0 (from'_at_else_not_below n) (to'_at_else_not_below n) n.near_end-to.ensures.0 n.near_end-to.ensures.1) n.requires.5
-
-second : (el : Else-not-below) → On-at-Else-not-below el el.old_entries-below.result.left el.old_entries-below.new.words (part_at_else_not_below el (to'_at_else_not_below el - from'_at_else_not_below el) (from'_at_else_not_below el) ++ part_at_else_not_below el (PAGE-WORDS - to'_at_else_not_below el) (to'_at_else_not_below el))
-second el =
-    let r = el.old_entries-below in
-    remaining_next (first_at_else_not_below el) _ _ refl (sym (progress_all r.result r.new.words el.if-not-below.false) ∙ r.ensures)
-
--- the stores of the entries from i on, as many as n; and of the whole page
-abbrev part_at_after_new_entries_near : (n : After-new_entries-near) → ℕ → ℕ → List Store
-part_at_after_new_entries_near n count i = let a = n.args in new_run (frame_of a.edit.f a.words.now) a.words.now (request_of a.edit.q) (entry_of a.new.e) a.new.b a.new.page.0 count i
-
-abbrev to'_at_after_new_entries_near : (n : After-new_entries-near) → ℕ
-to'_at_after_new_entries_near n = n.near_end-to.result
-
-abbrev from'_at_after_new_entries_near : (n : After-new_entries-near) → ℕ
-from'_at_after_new_entries_near n = n.first_entry-from.result
-
--- the same stores follow from the memory that stands
-same_part_at_after_new_entries_near : (n : After-new_entries-near) (m : List ℕ) → let a = n.args in length m ≡ length a.words.now → (count i : ℕ)
-    → new_run (frame_of a.edit.f m) m (request_of a.edit.q) (entry_of a.new.e) a.new.b a.new.page.0 count i ≡ part_at_after_new_entries_near n count i
-same_part_at_after_new_entries_near n m len count i =
-    let a = n.args in
-    run_same (frame_over a.edit.f) (request_of a.edit.q) (entry_of a.new.e) a.new.b a.new.page.0 m a.words.now n.requires.4 len count i
-
--- what the second part made, from the memory that the call found
-said : (ne : After-new_entries-near) → let t = ne.new_entries-near in
-    out t.result.all t.result.left t.new.words ≡ run ne.old_entries-below.result.left (part_at_after_new_entries_near ne (to'_at_after_new_entries_near ne - from'_at_after_new_entries_near ne) (from'_at_after_new_entries_near ne)) ne.old_entries-below.new.words
-said ne =
-    let r = ne.old_entries-below in
-    ne.new_entries-near.ensures ∙ ap (λ (ss : List Store). run r.result.left ss r.new.words) (same_part_at_after_new_entries_near ne r.new.words r.auto.words _ _)
-
-abbrev On-at-Else-not-near : (n : Else-not-near) → Budget → List ℕ → List Store → Type 0
-On-at-Else-not-near n more m rest = let a = n.args in Remaining a.left a.words.now (new_table (frame_of a.edit.f a.words.now) a.words.now (request_of a.edit.q) (entry_of a.new.e) a.new.b a.new.page.0) more m rest
-
--- the stores of the entries from i on, as many as n; and of the whole page
-abbrev part_at_else_not_near : (n : Else-not-near) → ℕ → ℕ → List Store
-part_at_else_not_near n count i = let a = n.args in new_run (frame_of a.edit.f a.words.now) a.words.now (request_of a.edit.q) (entry_of a.new.e) a.new.b a.new.page.0 count i
-
-abbrev to'_at_else_not_near : (n : Else-not-near) → ℕ
-to'_at_else_not_near n = n.near_end-to.result
-
-abbrev from'_at_else_not_near : (n : Else-not-near) → ℕ
-from'_at_else_not_near n = n.first_entry-from.result
-
--- before the first_at_else_not_near part, the second and the third
-first_at_else_not_near : (n : Else-not-near) → let a = n.args in On-at-Else-not-near n a.left a.words.now (part_at_else_not_near n (from'_at_else_not_near n - 0) 0 ++ (part_at_else_not_near n (to'_at_else_not_near n - from'_at_else_not_near n) (from'_at_else_not_near n) ++ part_at_else_not_near n (PAGE-WORDS - to'_at_else_not_near n) (to'_at_else_not_near n)))
-first_at_else_not_near n =
-    let a = n.args in
-    remaining_start (run_parts (frame_of a.edit.f a.words.now) a.words.now (request_of a.edit.q) (entry_of a.new.e) a.new.b a.new.page.0 (from'_at_else_not_near n) (to'_at_else_not_near n) n.near_end-to.ensures.0 n.near_end-to.ensures.1) n.requires.5
-
-second_at_else_not_near : (el : Else-not-near) → On-at-Else-not-near el el.old_entries-below.result.left el.old_entries-below.new.words (part_at_else_not_near el (to'_at_else_not_near el - from'_at_else_not_near el) (from'_at_else_not_near el) ++ part_at_else_not_near el (PAGE-WORDS - to'_at_else_not_near el) (to'_at_else_not_near el))
-second_at_else_not_near el =
-    let r = el.old_entries-below in
-    remaining_next (first_at_else_not_near el) _ _ refl (sym (progress_all r.result r.new.words el.if-not-below.false) ∙ r.ensures)
-
--- the same stores follow from the memory that stands
-same_part_at_else_not_near : (n : Else-not-near) (m : List ℕ) → let a = n.args in length m ≡ length a.words.now → (count i : ℕ)
-    → new_run (frame_of a.edit.f m) m (request_of a.edit.q) (entry_of a.new.e) a.new.b a.new.page.0 count i ≡ part_at_else_not_near n count i
-same_part_at_else_not_near n m len count i =
-    let a = n.args in
-    run_same (frame_over a.edit.f) (request_of a.edit.q) (entry_of a.new.e) a.new.b a.new.page.0 m a.words.now n.requires.4 len count i
-
--- what the second part made, from the memory that the call found
-said_at_else_not_near : (ne : Else-not-near) → let t = ne.new_entries-near in
-    out t.result.all t.result.left t.new.words ≡ run ne.old_entries-below.result.left (part_at_else_not_near ne (to'_at_else_not_near ne - from'_at_else_not_near ne) (from'_at_else_not_near ne)) ne.old_entries-below.new.words
-said_at_else_not_near ne =
-    let r = ne.old_entries-below in
-    ne.new_entries-near.ensures ∙ ap (λ (ss : List Store). run r.result.left ss r.new.words) (same_part_at_else_not_near ne r.new.words r.auto.words _ _)
-
-third : (el2 : Else-not-near) → On-at-Else-not-near el2 el2.new_entries-near.result.left el2.new_entries-near.new.words (part_at_else_not_near el2 (PAGE-WORDS - to'_at_else_not_near el2) (to'_at_else_not_near el2))
-third el2 =
-    let t = el2.new_entries-near in
-    remaining_next (second_at_else_not_near el2) _ _ refl (sym (progress_all t.result t.new.words el2.if-not-near.false) ∙ said_at_else_not_near el2)
-
-pub old_entries-below-requires : goal.old_entries-below-requires
-old_entries-below-requires c = (c.requires.0, c.first_entry-from.ensures.0, omega arith, c.requires.1, c.requires.2, c.requires.3, c.requires.4, λ k lo hi. c.first_entry-from.ensures.1 k (omega arith) (omega arith), remaining_ahead (first (goal.at.old_entries-below-requires c).After-near_end-to) _ _ refl)
-
-pub returns-then-not-below : goal.returns-then-not-below
-returns-then-not-below c = let r = c.old_entries-below in
-    let z = progress_cut r.result r.new.words c.if-not-below.true in
-    z ∙ remaining_cut (first (goal.at.returns-then-not-below c).After-near_end-to) _ _ refl (sym z ∙ r.ensures)
-
-pub new_entries-near-requires : goal.new_entries-near-requires
-new_entries-near-requires c = let a = c.args in
-    let r = c.old_entries-below in (
-      c.requires.0,
-      c.near_end-to.ensures.1,
-      c.near_end-to.ensures.0,
-      c.requires.1,
-      good_same (frame_over a.edit.f) a.words.now r.new.words r.auto.words (entry_of a.new.e) c.requires.4 c.requires.2,
-      lent_same (frame_over a.edit.f) a.words.now r.new.words r.auto.words a.new.page.0 c.requires.3,
-      c.requires.4,
-      ahead_of (sym (same_part (goal.at.new_entries-near-requires c).After-near_end-to r.new.words r.auto.words _ _)) (remaining_ahead (second (goal.at.new_entries-near-requires c).Else-not-below) _ _ refl),
-    )
-
-pub returns-then-not-near : goal.returns-then-not-near
-returns-then-not-near c = let t = c.new_entries-near in
-    let z = progress_cut t.result t.new.words c.if-not-near.true in
-    z ∙ remaining_cut (second (goal.at.returns-then-not-near c).Else-not-below) _ _ refl (sym z ∙ said (goal.at.returns-then-not-near c).After-new_entries-near)
+below : (k : In_ok-below) → let a = k.args in Stored a.edit a.words.now a.new a.left k.old_entries.new.words k.in_ok-below.below k.first_entry-from.result
+below k =
+    let a = k.args in
+    new_until (none a.edit a.words.now a.new a.left k.requires.2) k.first_entry-from.result (omega arith) (omega arith) k.in_ok-below.ensures
+    k.old_entries.auto.words
 
 pub old_entries-requires : goal.old_entries-requires
-old_entries-requires c = let a = c.args in
-    let r = c.old_entries-below in
-    let t = c.new_entries-near in (
-      c.requires.0,
+old_entries-requires c =
+    let a = c.args in
+    let from = c.first_entry-from in (
+      from.ensures.0,
       omega arith,
-      c.near_end-to.ensures.1,
+      c.requires.0,
       c.requires.1,
-      good_same (frame_over a.edit.f) a.words.now t.new.words (t.auto.words ∙ r.auto.words) (entry_of a.new.e) c.requires.4 c.requires.2,
-      lent_same (frame_over a.edit.f) a.words.now t.new.words (t.auto.words ∙ r.auto.words) a.new.page.0 c.requires.3,
-      c.requires.4,
-      λ k lo hi. c.near_end-to.ensures.2 k (omega arith) (omega (arith, c.near_end-to.ensures.1)),
-      ahead_of (sym (same_part (goal.at.old_entries-requires c).After-near_end-to t.new.words (t.auto.words ∙ r.auto.words) _ _)) (third (goal.at.old_entries-requires c).Else-not-near).next,
+      λ k lo hi. from.ensures.1 k (omega arith) (omega arith),
+      new_ahead (none a.edit a.words.now a.new a.left c.requires.2) (from.result - 0) (omega arith),
+    )
+
+pub returns-in_err-below : goal.returns-in_err-below
+unfolding new_table
+returns-in_err-below c =
+    let a = c.args in
+    rw c.from_residual.ensures (new_cut (none a.edit a.words.now a.new a.left c.requires.2) (c.first_entry-from.result - 0) (omega arith) c.in_err-below.ensures)
+
+pub new_entries-requires : goal.new_entries-requires
+new_entries-requires c =
+    let s = below (goal.at.new_entries-requires c).In_ok-below in
+    let to = c.near_end-to in (
+      to.ensures.1,
+      to.ensures.0,
+      new_good s c.requires.0,
+      new_lent s c.requires.1,
+      new_ahead s (to.result - c.first_entry-from.result) (omega arith),
+    )
+
+pub returns-in_err-near : goal.returns-in_err-near
+unfolding new_table
+returns-in_err-near c =
+    rw c.from_residual-in_err-near.ensures
+    (new_cut (below (goal.at.returns-in_err-near c).In_ok-below) (c.near_end-to.result - c.first_entry-from.result) (omega arith) c.in_err-near.ensures)
+
+pub old_entries-requires-2 : goal.old_entries-requires-2
+old_entries-requires-2 c =
+    let to = c.near_end-to in
+    let s = new_until (below (goal.at.old_entries-requires-2 c).In_ok-below) to.result to.ensures.0 to.ensures.1 c.in_ok-near.ensures c.new_entries.auto.words in (
+      omega arith,
+      to.ensures.1,
+      new_good s c.requires.0,
+      new_lent s c.requires.1,
+      λ k lo hi. to.ensures.2 k (omega arith) (omega (arith, to.ensures.1)),
+      new_ahead s (PAGE-WORDS - to.result) (omega arith),
     )
 
 pub returns : goal.returns
-returns c = let u = c.old_entries in
-    let t = c.new_entries-near in
-    u.ensures
-    ∙ ap (λ (ss : List Store). run t.result.left ss t.new.words) (same_part (goal.at.returns c).After-near_end-to t.new.words (t.auto.words ∙ c.old_entries-below.auto.words) _ _)
-    ∙ sym (third (goal.at.returns c).Else-not-near).same
+unfolding new_table
+returns c =
+    let to = c.near_end-to in
+    new_rest (new_until (below (goal.at.returns c).In_ok-below) to.result to.ensures.0 to.ensures.1 c.in_ok-near.ensures c.new_entries.auto.words) c.old_entries-2.ensures

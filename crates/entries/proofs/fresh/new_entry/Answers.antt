@@ -7,7 +7,7 @@ use Rattle.entries.proofs.fresh.new_entry.Goals as goal
 pub put-requires : goal.put-requires
 put-requires c =
     let a = c.args in
-    (search rules, next_store (frame_of a.edit.f a.words.now) a.new.page.0 a.i _ c.page_at.ensures.0 a.words.now c.after_word-word.ensures c.requires.5)
+    (search rules, next_store (frame_of a.edit.f a.words.now) a.new.page.0 a.i _ c.page_at.ensures.0 a.words.now c.after_word-word.ensures c.requires.3)
 
 pub returns : goal.returns
 returns c =

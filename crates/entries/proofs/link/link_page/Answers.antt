@@ -11,10 +11,10 @@ pub put-requires : goal.put-requires
 unfolding encode store_l2 entry_page entry_place
 put-requires c =
     let a = c.args in
-    (search rules, next_store (frame_of a.edit.f a.words.now) a.edit.root.0 a.new.b _ c.page_at.ensures.0 a.words.now c.narrow.ensures c.requires.3)
+    (search rules, next_store (frame_of a.edit.f a.words.now) a.edit.root.0 a.new.block.b _ c.page_at.ensures.0 a.words.now c.narrow.ensures c.requires.2)
 
 pub returns : goal.returns
 unfolding encode store_l2 entry_page entry_place
 returns c =
     let a = c.args in
-    stored (frame_of a.edit.f a.words.now) a.edit.root.0 a.new.b _ c.page_at.ensures.0 a.words.now c.narrow.ensures a.left c.put.ensures
+    stored (frame_of a.edit.f a.words.now) a.edit.root.0 a.new.block.b _ c.page_at.ensures.0 a.words.now c.narrow.ensures a.left c.put.ensures

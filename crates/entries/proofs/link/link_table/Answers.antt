@@ -1,86 +1,69 @@
 -- `entries::link::link_table` meets its contract: the list is the page's entries and then the link, so once the page is filled the link is what is
 -- left.
-use mathlib.Core.Path.{◌≡◌, refl, sym, ap, ◌∙◌}
-use mathlib.Core.Bool.{true, false, not}
+use mathlib.Core.Path.{◌≡◌, sym, ap, ◌∙◌}
 use mathlib.Core.List.{List, [], ◌∷◌, ◌++◌}
 use Prim.Native.Nat.{ℕ}
+use lib.ListN.{length}
 use borrow.Author.Rules.{rules}
-use Rattle.table.specs.Board.{board, frame_of, frame_over}
-use Rattle.shapes.proofs.Places.{lent_same}
-use Rattle.shapes.specs.Ahead.{Ahead}
-use Rattle.shapes.proofs.Order.{ahead_of, Remaining, remaining_start, remaining_ahead, remaining_next, remaining_cut}
-use Rattle.shapes.proofs.RunLaws.{progress_all, progress_cut}
-use Rattle.shapes.specs.Run.{out, run}
-use Rattle.types.specs.declared.Budget.{Budget}
 use Rattle.model.specs.Entry.{table, encode}
-use Rattle.model.specs.Frame.{Frame, lent}
+use Rattle.model.specs.Frame.{Frame}
 use Rattle.model.specs.Stores.{Store, store_l2, new_table, link_table}
+use Rattle.shapes.specs.Ahead.{Ahead}
+use Rattle.shapes.specs.Run.{run}
+use Rattle.shapes.proofs.Order.{ahead_of, ahead_first, ahead_run}
+use Rattle.shapes.proofs.Places.{lent_same}
+use Rattle.shapes.proofs.RunLaws.{run_on, run_off}
+use Rattle.table.specs.Board.{board, frame_of, frame_over}
 use Rattle.types.specs.Views.{entry_of, request_of}
+use Rattle.types.specs.declared.Edit.{Edit}
+use Rattle.entries.specs.declared.new_page.NewPage.{NewPage}
 use Rattle.entries.proofs.link.link_table.Goals as goal
-use Rattle.entries.proofs.link.link_table.Goals.{After-fill_page-first, Start}
 
--- before the page, and before the link
-abbrev On : (s : Start) → Budget → List ℕ → List Store → Type 0
-On s more m rest = let a = s.args in Remaining a.left a.words.now (link_table (frame_of a.edit.f a.words.now) a.words.now (request_of a.edit.q) a.edit.root.0 (entry_of a.new.e) a.new.b a.new.page.0) more m rest
+-- the page's entries, and the link, which is the same in a memory of the same length
+abbrev page : Edit → List ℕ → NewPage → List Store
+page edit m new = new_table (frame_of edit.f m) m (request_of edit.q) (entry_of new.block.e) new.block.b new.page.0
 
-abbrev page : (s : Start) → List Store
-page s = let a = s.args in new_table (frame_of a.edit.f a.words.now) a.words.now (request_of a.edit.q) (entry_of a.new.e) a.new.b a.new.page.0
+abbrev link : Edit → List ℕ → NewPage → List Store
+link edit m new = store_l2 (frame_of edit.f m) edit.root.0 new.block.b (encode board (table new.page.0)) ∷ []
 
-abbrev link : (s : Start) → List Store
-link s = let a = s.args in store_l2 (frame_of a.edit.f a.words.now) a.edit.root.0 a.new.b (encode board (table a.new.page.0)) ∷ []
+link_same : (edit : Edit) (m m' : List ℕ) (new : NewPage) → length m' ≡ length m → link edit m' new ≡ link edit m new
+link_same edit m m' new len = ap (λ (X : Frame). store_l2 X edit.root.0 new.block.b (encode board (table new.page.0)) ∷ []) (ap (frame_over edit.f) len)
 
-first : (s : Start) → On s s.args.left s.args.words.now (page s ++ link s)
+parts : (edit : Edit) (m : List ℕ) (new : NewPage) → Ahead m (link_table (frame_of edit.f m) m (request_of edit.q) edit.root.0 (entry_of new.block.e) new.block.b new.page.0)
+    → Ahead m (page edit m new ++ link edit m new)
 unfolding link_table
-first s = remaining_start refl s.requires.7
-
-abbrev page_at_after_fill_page_first : (s : After-fill_page-first) → List Store
-page_at_after_fill_page_first s = let a = s.args in new_table (frame_of a.edit.f a.words.now) a.words.now (request_of a.edit.q) (entry_of a.new.e) a.new.b a.new.page.0
-
--- the call that fills the page: it is cut, and so is the whole; or the link comes next
-made : (k : After-fill_page-first) → out k.fill_page-first.result.all k.fill_page-first.result.left k.fill_page-first.new.words ≡ run k.args.left (page_at_after_fill_page_first k) k.args.words.now
-made k = k.fill_page-first.ensures
-
-abbrev link_at_after_fill_page_first : (s : After-fill_page-first) → List Store
-link_at_after_fill_page_first s = let a = s.args in store_l2 (frame_of a.edit.f a.words.now) a.edit.root.0 a.new.b (encode board (table a.new.page.0)) ∷ []
-
--- before the page, and before the link
-abbrev On-at-After-fill_page-first : (s : After-fill_page-first) → Budget → List ℕ → List Store → Type 0
-On-at-After-fill_page-first s more m rest = let a = s.args in Remaining a.left a.words.now (link_table (frame_of a.edit.f a.words.now) a.words.now (request_of a.edit.q) a.edit.root.0 (entry_of a.new.e) a.new.b a.new.page.0) more m rest
-
-first_at_after_fill_page_first : (s : After-fill_page-first) → On-at-After-fill_page-first s s.args.left s.args.words.now (page_at_after_fill_page_first s ++ link_at_after_fill_page_first s)
-unfolding link_table
-first_at_after_fill_page_first s = remaining_start refl s.requires.7
-
-cut : (k : After-fill_page-first) → not k.fill_page-first.result.all ≡ true → out k.fill_page-first.result.all k.fill_page-first.result.left k.fill_page-first.new.words ≡ run k.args.left (page_at_after_fill_page_first k ++ link_at_after_fill_page_first k) k.args.words.now
-unfolding link_table
-cut k z = let x = progress_cut k.fill_page-first.result k.fill_page-first.new.words z in x ∙ remaining_cut (first_at_after_fill_page_first k) _ _ refl (sym x ∙ made k)
-
-then : (k : After-fill_page-first) → not k.fill_page-first.result.all ≡ false → On-at-After-fill_page-first k k.fill_page-first.result.left k.fill_page-first.new.words (link_at_after_fill_page_first k)
-then k z = remaining_next (first_at_after_fill_page_first k) _ _ refl (sym (progress_all k.fill_page-first.result k.fill_page-first.new.words z) ∙ made k)
+parts edit m new next = next
 
 -- The page's entries come first in the list,
 -- and its first store is the next one of the edit.
-pub fill_page-first-requires : goal.fill_page-first-requires
-fill_page-first-requires c =
-    let next : Ahead c.args.words.now (page (goal.at.fill_page-first-requires c).Start) = remaining_ahead (first (goal.at.fill_page-first-requires c).Start) _ _ refl in
+pub fill_page-requires : goal.fill_page-requires
+fill_page-requires c =
+    let a = c.args in
+    let next : Ahead a.words.now (page a.edit a.words.now a.new) = ahead_first _ (link a.edit a.words.now a.new) (parts a.edit a.words.now a.new c.requires.4) in
     search rules
 
-pub returns-then-not-first : goal.returns-then-not-first
+pub returns-in_err-filled : goal.returns-in_err-filled
 unfolding link_table
-returns-then-not-first c = cut (goal.at.returns-then-not-first c).After-fill_page-first c.if-not-first.true
+returns-in_err-filled c =
+    let a = c.args in
+    rw c.from_residual.ensures (sym (run_off a.left (page a.edit a.words.now a.new) a.words.now c.in_err-filled.ensures (link a.edit a.words.now a.new)))
 
 -- what the link asks holds still after the page is filled
 pub link_page-requires : goal.link_page-requires
 link_page-requires c =
     let a = c.args in
-    let root : lent (frame_of a.edit.f c.fill_page-first.new.words) a.edit.root.0 ≡ true = lent_same (frame_over a.edit.f) a.words.now c.fill_page-first.new.words c.fill_page-first.auto.words a.edit.root.0 c.requires.5 in
-    let next : Ahead c.fill_page-first.new.words (store_l2 (frame_of a.edit.f c.fill_page-first.new.words) a.edit.root.0 a.new.b (encode board (table a.new.page.0)) ∷ [])
-    = ahead_of (ap (λ (X : Frame). store_l2 X a.edit.root.0 a.new.b (encode board (table a.new.page.0)) ∷ []) (ap (frame_over a.edit.f) (sym c.fill_page-first.auto.words))) (then (goal.at.link_page-requires c).After-fill_page-first c.if-not-first.false).next in
-    search rules
+    let r = c.fill_page in (
+      lent_same (frame_over a.edit.f) a.words.now r.new.words r.auto.words a.edit.root.0 c.requires.2,
+      c.requires.3,
+      ahead_of (sym (link_same a.edit a.words.now r.new.words a.new r.auto.words))
+          (ahead_run a.left (page a.edit a.words.now a.new) (link a.edit a.words.now a.new) (parts a.edit a.words.now a.new c.requires.4) c.in_ok-filled.ensures),
+    )
 
 pub returns : goal.returns
+unfolding link_table
 returns c =
     let a = c.args in
+    let r = c.fill_page in
     c.link_page.ensures
-    ∙ ap (λ (X : Frame). run c.fill_page-first.result.left (store_l2 X a.edit.root.0 a.new.b (encode board (table a.new.page.0)) ∷ []) c.fill_page-first.new.words) (ap (frame_over a.edit.f) c.fill_page-first.auto.words)
-    ∙ sym (then (goal.at.returns c).After-fill_page-first c.if-not-first.false).same
+    ∙ ap (λ (ss : List Store). run c.in_ok-filled.filled ss r.new.words) (link_same a.edit a.words.now r.new.words a.new r.auto.words)
+    ∙ sym (run_on a.left (page a.edit a.words.now a.new) a.words.now c.in_ok-filled.ensures (link a.edit a.words.now a.new))

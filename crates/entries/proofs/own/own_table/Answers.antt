@@ -7,5 +7,5 @@ use Rattle.entries.proofs.own.own_table.Goals as goal
 pub returns-in-Outside : goal.returns-in-Outside
 returns-in-Outside c =
     let a = c.args in
-    own_none (record { shape = board_shape; long = omega arith; typed = λ j. omega (arith, c.slice_known-1.given j); low = c.requires.1.small; good = c.requires.2 }) a.b
+    own_none (record { shape = board_shape; long = omega arith; typed = λ j. omega (arith, c.type_inv.words j); low = c.args.edit.fair.small; good = c.requires.1 }) a.b
     (rw c.in-Outside.is at c.lies.ensures) a.left

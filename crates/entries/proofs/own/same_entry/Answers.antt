@@ -7,7 +7,7 @@ use Rattle.entries.proofs.own.same_entry.Goals as goal
 pub put_changed-requires : goal.put_changed-requires
 put_changed-requires c =
     let a = c.args in
-    (search rules, next_if (frame_of a.edit.f a.words.now) a.t.0 a.i _ c.page_at.ensures.0 a.words.now c.after_word-word.ensures c.requires.4)
+    (search rules, next_if (frame_of a.edit.f a.words.now) a.t.0 a.i _ c.page_at.ensures.0 a.words.now c.after_word-word.ensures c.requires.3)
 
 pub returns : goal.returns
 returns c =

@@ -12,8 +12,8 @@ use Rattle.shapes.proofs.Order.{ahead_of}
 use Rattle.shapes.proofs.RowLaws.{row_fills}
 use Rattle.entries.proofs.rows.flat_entries.Goals as goal
 
-pub fill-rest-requires : goal.fill-rest-requires
-fill-rest-requires c =
+pub fill-requires : goal.fill-requires
+fill-requires c =
     let a = c.args in
     let m = a.words.now in
     let z : a.n ≡ 32 = omega arith in
@@ -26,6 +26,6 @@ returns c =
     let a = c.args in
     let m = a.words.now in
     let z : 32 ≡ a.n = omega arith in
-    c.fill-rest.ensures
+    c.fill.ensures
     ∙ ap (λ (l : List Store). run a.left l m) (sym (row_fills m a.word 32 a.at (sym c.all_differ.ensures ∙ c.if-not-all_differ.false)))
     ∙ ap (λ (n : ℕ). run a.left (row_stores m (λ w. a.word) n a.at) m) z

@@ -1,28 +1,20 @@
 -- `forms::pieces::old_first` meets its contract: outside the range the first field is the old one.
-use mathlib.Core.Path.{◌≡◌, sym, ap, ◌∙◌, subst}
-use Prim.Native.Nat.{ℕ, ◌+◌, ◌*◌, ◌%◌, ◌<◌}
+use mathlib.Core.Path.{◌∙◌}
+use Prim.Native.Nat.{◌*◌}
 use native.Mathlib.Omega.{arith}
-use Rattle.table.specs.Board.{FIELDS, PIECE-PAGES, PIECE-WORDS, ENTRY-VALUES, frame_of}
+use Rattle.table.specs.Board.{PIECE-WORDS}
 use Rattle.forms.proofs.BoardShape.{board_shape}
-use Rattle.shapes.proofs.EntryLaws.{first_field, after_small, word_outside}
-use Rattle.model.specs.Forms.{after_in}
-use Rattle.types.specs.Views.{entry_of, request_of}
+use Rattle.forms.proofs.FirstPage.{first_of_piece}
+use Rattle.shapes.proofs.EntryLaws.{word_outside}
+use Rattle.types.specs.Views.{entry_of}
 use Rattle.forms.proofs.pieces.old_first.Goals as goal
 
 pub returns : goal.returns
-returns c = let a = c.args in
+returns c =
+    let a = c.args in
     let pre = c.requires in
-    let u = pre.1 in
-    let z : a.b * 8192 + a.i * PIECE-WORDS * FIELDS ≡ a.b * 8192 + a.i * PIECE-PAGES = omega arith in
-    let e : c.wide.result % 16 ≡ after_in (frame_of a.edit.f a.words.now) a.words.now (request_of a.edit.q) (entry_of a.e) (a.b * 8192 + a.i * PIECE-PAGES)
-    = ap (λ (k : ℕ). k % 16)
+    first_of_piece a.edit a.words.now (entry_of a.block.e) a.block.b a.i pre.1
     (c.wide.ensures.0
     ∙ c.old_word.ensures
-    ∙ word_outside (frame_of a.edit.f a.words.now) board_shape a.words.now (request_of a.edit.q) pre.2.small (entry_of a.e) pre.3 a.b (a.i * PIECE-WORDS) (omega arith)
-    (subst (λ (k : ℕ). k < ENTRY-VALUES) c.old_word.ensures (omega arith)) (λ k lo hi. pre.4 k (omega arith) (omega arith)))
-    ∙ first_field (frame_of a.edit.f a.words.now) board_shape a.words.now (request_of a.edit.q) pre.2.small (entry_of a.e) pre.3 a.b (a.i * PIECE-WORDS)
-    ∙ ap (after_in (frame_of a.edit.f a.words.now) a.words.now (request_of a.edit.q) (entry_of a.e)) z in (
-      e,
-      subst (λ (k : ℕ). k < 4) (sym e)
-          (after_small (frame_of a.edit.f a.words.now) board_shape a.words.now (request_of a.edit.q) pre.2.small (entry_of a.e) pre.3 (a.b * 8192 + a.i * PIECE-PAGES)),
-    )
+    ∙ word_outside _ board_shape _ _ a.edit.fair.small _ pre.1 a.block.b (a.i * PIECE-WORDS) (omega arith)
+    (omega arith) (λ k lo hi. pre.2 k (omega arith) (omega arith)))

@@ -1,15 +1,9 @@
 -- `forms::pieces::piece_is` meets its contract: inside the range, outside it, and across an end.
-use Prim.Native.Nat.{◌+◌, ◌*◌}
 use native.Mathlib.Omega.{arith}
-use Rattle.table.specs.Board.{PIECE-PAGES, frame_of}
 use Rattle.forms.proofs.BoardShape.{board_shape}
 use Rattle.shapes.proofs.EntryLaws.{run_inside}
-use Rattle.types.specs.Views.{entry_of, request_of}
 use Rattle.forms.proofs.pieces.piece_is.Goals as goal
 
 pub returns-in-Inside : goal.returns-in-Inside
 returns-in-Inside c =
-    let a = c.args in
-    let pre = c.requires in
-    run_inside (frame_of a.edit.f a.words.now) board_shape a.words.now (request_of a.edit.q) pre.3.small (entry_of a.e) pre.4 a.p PIECE-PAGES (a.b * 8192 + a.i * PIECE-PAGES) (omega arith)
-    (rw c.in-Inside.is at c.lies.ensures)
+    run_inside _ board_shape _ _ c.args.edit.fair.small _ c.requires.2 _ _ _ (omega arith) (rw c.in-Inside.is at c.lies.ensures)

@@ -1,8 +1,8 @@
 -- `forms::words::splice_fields` meets its contract: a splice of bits at a multiple of four is one of fields.
-use mathlib.Core.Path.{ap₂, sym, subst, ◌∙◌, ◌≡◌}
-use Prim.Native.Nat.{ℕ, ◌<◌}
+use mathlib.Core.Path.{ap₂, ◌∙◌, ◌≡◌}
+use Prim.Native.Nat.{ℕ}
 use native.Mathlib.Omega.{arith}
-use Rattle.table.specs.Board.{ENTRY-VALUES, FIELDS}
+use Rattle.table.specs.Board.{FIELDS}
 use Rattle.shapes.proofs.SpliceLaws.{splice_bits}
 use Rattle.laws.proofs.Splices.{spliced, splice_lt}
 use Rattle.forms.proofs.words.splice_fields.Goals as goal
@@ -17,7 +17,7 @@ same c =
 pub narrow-requires : goal.narrow-requires
 narrow-requires c =
     let a = c.args in
-    subst (λ (w : ℕ). w < ENTRY-VALUES) (sym (same (goal.at.narrow-requires c).After-splice)) (splice_lt 16 (omega arith) a.k FIELDS a.low a.high c.requires (omega arith))
+    rw (same (goal.at.narrow-requires c).After-splice) (splice_lt 16 (omega arith) a.k FIELDS a.low a.high c.requires (omega arith))
 
 pub returns : goal.returns
 returns c = c.narrow.ensures ∙ same (goal.at.returns c).After-splice

@@ -3,8 +3,5 @@ use native.Mathlib.Omega.{arith}
 use Rattle.laws.proofs.InRange.{below_false}
 use Rattle.range.proofs.l1_entries.first_entry.Goals as goal
 
-pub returns-then-base-low : goal.returns-then-base-low
-returns-then-base-low c = (omega arith, λ k hi lo. below_false _ k (omega arith))
-
 pub returns : goal.returns
-returns c = (omega arith, λ k hi lo. below_false _ k (omega arith))
+returns c = (c.cut.ensures.few, λ k hi lo. below_false _ k (omega arith))

@@ -3,8 +3,5 @@ use native.Mathlib.Omega.{arith}
 use Rattle.laws.proofs.InRange.{above_false}
 use Rattle.range.proofs.l1_entries.past_entry.Goals as goal
 
-pub returns-then-high-base : goal.returns-then-high-base
-returns-then-high-base c = (omega arith, λ k lo hi. above_false _ k (omega arith))
-
 pub returns : goal.returns
-returns c = (omega arith, λ k lo hi. above_false _ k (omega arith))
+returns c = (c.cut.ensures.few, λ k lo hi. above_false _ k (omega (arith, c.cut.ensures.past (omega arith))))

@@ -1,34 +1,47 @@
--- `types::needed_page::page_from` meets its contract: the first two pages, as many as there are.
-use mathlib.Core.Path.{sym, ap, ◌∙◌}
-use mathlib.Core.Logic.{◌≢◌}
-use mathlib.Core.List.{head_d}
-use Prim.Native.Nat.{ℕ}
+-- `types::needed_page::page_from` meets its contract: place by place of the list.
+use mathlib.Core.Path.{◌≡◌, refl}
+use mathlib.Core.List.{[], head_d}
+use Prim.Native.Nat.{ℕ, zero, suc, ◌<◌}
 use native.Mathlib.Omega.{arith}
 use lib.ListN.{drop}
-use Rattle.types.specs.Views.{free_list}
-use Rattle.laws.proofs.Fronts.{page_none, page_past, page_first, page_second}
+use Rattle.std.specs.Prelude.{Option, Some, None}
+use Rattle.std.specs.Option.{unwrap_or, option_and}
+use Rattle.std.proofs.Math.Seq.{drop-nil}
+use Rattle.types.specs.Views.{page_before}
+use Rattle.types.specs.declared.PageNumber.{PageNumber}
 use Rattle.types.proofs.needed_page.page_from.Goals as goal
+use Rattle.types.proofs.needed_page.page_from.Goals.{in-0, in-1, in_default}
 
-pub returns-then-count-next : goal.returns-then-count-next
-returns-then-count-next c =
-    let a = c.args in
-    sym (page_none a.free.first.0 a.free.second.0 a.free.count a.next c.if-count-next.true)
+abbrev number : Option PageNumber → ℕ
+number page = (unwrap_or page (record { 0 = 0 })).0
 
-pub returns-then-next-eq0 : goal.returns-then-next-eq0
-returns-then-next-eq0 c =
-    let a = c.args in
-    sym (ap (λ (n : ℕ). head_d (drop n (free_list a.free)) 0) c.if-next-eq0.true
-    ∙ page_first a.free.first.0 a.free.second.0 a.free.count (omega (arith, c.if-count-next.false, c.if-next-eq0.true)))
+abbrev listed : Option PageNumber → Option PageNumber → ℕ → ℕ
+listed first second n = head_d (drop n (page_before first (page_before second []))) 0
 
-pub returns-then-next-eq1 : goal.returns-then-next-eq1
-returns-then-next-eq1 c =
-    let a = c.args in
-    sym (ap (λ (n : ℕ). head_d (drop n (free_list a.free)) 0) c.if-next-eq1.true
-    ∙ page_second a.free.first.0 a.free.second.0 a.free.count (omega (arith, c.if-count-next.false, c.if-next-eq1.true)))
+first_page : (first second : Option PageNumber) → number first ≡ listed first second 0
+unfolding head_d
+first_page None second = refl
+first_page (Some x) second = refl
+
+second_page : (first second : Option PageNumber) → number (option_and first second) ≡ listed first second 1
+unfolding head_d
+second_page None second = refl
+second_page (Some x) None = refl
+second_page (Some x) (Some y) = refl
+
+no_page : (first second : Option PageNumber) (n : ℕ) → 1 < n → 0 ≡ listed first second n
+unfolding head_d
+no_page first second zero h = absurd (omega arith)
+no_page first second (suc zero) h = absurd (omega arith)
+no_page None second (suc (suc n)) h = refl
+no_page (Some x) None (suc (suc n)) h = refl
+no_page (Some x) (Some y) (suc (suc n)) h = rw (drop-nil {A = ℕ} n)
 
 pub returns : goal.returns
 returns c =
-    let a = c.args in
-    let not-zero : a.next ≢ 0 = c.if-next-eq0.false in
-    let not-one : a.next ≢ 1 = c.if-next-eq1.false in
-    sym (page_past a.free.first.0 a.free.second.0 a.free.count a.next (omega arith))
+    let free = c.args.free in
+    elim c.match-next.branch [
+      | in-0 w ↦ rw (c.unwrap_or.ensures, w.page-is, w.in-0.is) (first_page free.first free.second)
+      | in-1 w ↦ rw (c.unwrap_or.ensures, w.page-is, w.and-page.ensures, w.in-1.is) (second_page free.first free.second)
+      | in_default w ↦ rw (c.unwrap_or.ensures, w.page-is) (no_page free.first free.second c.args.next (omega (arith, w.in_default)))
+    ]

@@ -1,2 +1,0 @@
---   Causes   the cause of a fault is a small number
-pub mod Causes
