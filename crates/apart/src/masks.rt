@@ -9,7 +9,7 @@ use table::board::EACH_FIELD;
 use table::word::PERMISSION_BITS;
 use types::{Masks, Strength};
 
-// No slot yet.
+// No slot yet. No derived `Default`, of which no clause would say that it counts none.
 pub fn none() -> Masks
     ensures { (k : ℕ) → Counted result k 0 0 }
 {

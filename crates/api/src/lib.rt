@@ -17,7 +17,7 @@ use types::{Address, Frame, Kind, PageNumber, Permission, Privilege, Sdid, Stren
 // What is answered where a code names nothing.
 const NO_CODE: u64 = 255;
 
-// Slot s, and zero where there is none.
+// Slot s, and zero where there is none, as in an empty one. By its number: the check of the library's module does not know what `get` compiles to.
 fn slot_at(slots: [Word; 8], s: u64) -> Word
     ensures { result ≡ get_or slots s 0 }
 {

@@ -33,12 +33,12 @@ fn say_fence(rt: &impl Print, fence: Fence) -> io::Result<()> {
     }
 }
 
-// A slot above 7 shows as register 0.
+// A slot above 7 shows as register 0: what the program writes is fixed.
 fn register_of(slots: [u64; 8], slot: u64) -> u64 {
     slots.get(slot as usize).copied().unwrap_or(0)
 }
 
-// The answer, the slot's register afterwards, and the fence.
+// The answer, the slot's register afterwards, and the fence, as what the program writes has them.
 fn say(rt: &impl Print, outcome: Outcome, slot: u64) -> io::Result<()> {
     say_reply(rt, outcome.reply)?;
     print!(rt; ", register 0x{:x}", register_of(outcome.slots, slot))?;

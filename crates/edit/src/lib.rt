@@ -1,4 +1,5 @@
-// The edit: the stores of an accepted edit in order, up to a limit, and its answer.
+// The edit: the stores of an accepted edit in order, up to a limit, and its answer. The words stand beside the edit, and not in it: they are lent to be
+// changed, one store after another, and an edit is the same before and after each.
 #![tactic(auto)]
 
 mod block;

@@ -99,7 +99,7 @@ pub fn load(rt: &impl Print, words: &[u64], slots: [u64; 8], a: u64) -> io::Resu
     ask(rt, words, slots, "load", Kind::Itself(Access::Load), a)
 }
 
-// A word of the lent memory.
+// A word of the lent memory; 0 past its end, where no line of the program asks.
 fn word_at(words: &[u64], at: usize) -> u64 {
     words.get(at).copied().unwrap_or(0)
 }

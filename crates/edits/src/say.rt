@@ -1,4 +1,4 @@
-// What the program writes of what a call answers.
+// What the program writes of what a call answers. Its outputs are fixed, so a reply and a fence are written in words of its own.
 use monitor::Reply;
 use std::io;
 use types::{Answer, Fence, Refusal};

@@ -125,7 +125,7 @@ fn old_first(edit: Edit, words: &[Word], block: Block, i: u64) -> u64
     wide(old_word(edit.f, words, block.e, i * PIECE_WORDS)) % FIELD_VALUES
 }
 
-// The one permission of a piece outside the range, if it has one.
+// The one permission of a piece outside the range, if it has one: apart from `cut_piece` and from `piece_first`, so that where a piece lies is asked once.
 fn old_piece(edit: Edit, words: &[Word], block: Block, i: u64) -> Option<u64>
     requires { (i < PIECES) × Good (frame_of edit.f words.now) words.now (entry_of block.e) × Lies (request_of edit.q) (block.b * block_pages + i * PIECE-PAGES) PIECE-PAGES Place.Outside }
     ensures { PieceIs (frame_of edit.f words.now) words.now (request_of edit.q) (entry_of block.e) block.b i result }

@@ -33,7 +33,7 @@ pub fn bad_range(f: Frame, n: usize, q: Request) -> bool
     end - start < size
 }
 
-// Document 02, item 6: rwx "in slots 1 to 7 .. Slot 0 keeps it".
+// Document 02, item 6: rwx "in slots 1 to 7 .. Slot 0 keeps it". A request has the two bits of its permission: rwx is 3, and none is 0.
 pub fn write_execute(q: Request) -> bool
     ensures { result ≡ write_execute (request_of q) }
 {

@@ -1,5 +1,5 @@
 // The slots: what a call answers and leaves, what it asks of the slot that it names, and opening and closing one.
-// `open` and `close` are outward calls, which `monitor` brings out.
+// `open` and `close` are outward calls, which `monitor` brings out: each is handed the frame, the words and the slots one by one, as C lends them.
 #![tactic(auto)]
 
 pub mod named;

@@ -1,4 +1,4 @@
-// What a call asks of the slot that it names, and which SDIDs are in use.
+// What a call asks of the slot that it names, and which SDIDs are in use. A slot is its register, "zero means empty", as C holds it, and no `Option`.
 ghost use Rattle.std.specs.Prelude.{◌≡◌};
 ghost use Rattle.model.specs.Numbers.{member};
 ghost use Rattle.table.specs.Board.{board};

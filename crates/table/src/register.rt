@@ -24,6 +24,7 @@ pub fn sdid(register: Word) -> Sdid
     Sdid(wide(register) / SDID_UNIT % 64)
 }
 
+// MODE is a number: two of its values have a meaning, and a register with any other is refused.
 pub fn mode(register: Word) -> u64
     ensures { (result ≡ mode_of board register) × (result < 16) }
 {

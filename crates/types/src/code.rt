@@ -1,5 +1,4 @@
-// Codes and words: what C asks and is answered. The interface for C has numbers; here, and nowhere else, codes become what they name, and answers
-// become words.
+// Codes and words: what C asks and is answered. The interface for C has numbers: here codes become what they name, and answers become words.
 ghost use Rattle.std.specs.Prelude.{◌≡◌, ℕ, ◌≤◌, ◌<◌, ◌^◌, if◌then◌else◌};
 ghost use Rattle.model.specs.Access.{fault, cause_of, original_of};
 ghost use Rattle.types.specs.Views.{privilege_of, kind_of, permission_number, strength_of, answer_of, fence_of, reply_of, separation_of};

@@ -66,7 +66,7 @@ pub enum Privilege {
     User,
 }
 
-// The access whose fault it is: 1, 5 and 7.
+// The access whose fault it is: 1, 5 and 7. A type beside `Access`: what is asked is never taken for what is answered, and only this has numbers.
 #[derive(Clone, Copy)]
 pub enum Cause {
     Fetch,
@@ -116,8 +116,8 @@ pub enum Entry {
 
 // ---- calls
 
-// What an edit asks. The permission is its two bits, as an entry holds them, here and in an `Entry` and a `Form`: they are spread over words and
-// spliced, and a `Permission` would be turned into them at each use.
+// What an edit asks. The permission is its two bits, as an entry holds them, here, in an `Entry` and a `Form`, and wherever an edit works with one: they
+// are spread over words and spliced, and a `Permission` would be turned into them at each use.
 #[derive(Clone, Copy)]
 pub struct Request {
     pub slot: u64,
@@ -140,7 +140,7 @@ pub struct Edit {
 pub enum Reply {
     Opened,
     Closed,
-    // How many stores were made, and whether that was all.
+    // How many stores were made, and whether that was all: both are told either way, so this is no `Option`.
     Edited(u64, bool),
 }
 
@@ -164,7 +164,8 @@ pub enum Form {
 
 // ---- stores up to a limit
 
-// How many more stores may be made, and which word the last one went to.
+// How many more stores may be made, and which word the last one went to: word 0 before the first, where nobody asks for it, since no store is left to
+// tell of. An `Option` there would be tested at each store.
 #[derive(Clone, Copy)]
 pub struct Budget {
     pub more: u64,

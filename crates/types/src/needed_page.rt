@@ -40,7 +40,8 @@ pub fn count(free: Free) -> u64
     }
 }
 
-// The first of the free pages that are left. No Option: a block that takes none is handed page 0, which is never lent, and never looks at it.
+// The first of the free pages that are left. An `Option` would be no plainer: a block that takes none is handed page 0, which is never lent, and never
+// looks at it, and one that takes a page would have to show again that there is one.
 pub fn page_from(free: Free, next: u64) -> PageNumber
     ensures { result.0 ≡ head_d (drop next (free_list free)) 0 }
 {

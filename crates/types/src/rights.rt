@@ -40,7 +40,7 @@ impl From<Permission> for u64 {
     }
 }
 
-// The place of a need in a row.
+// The place of a need in a row of the paper's table: no other form of the need, and so no `From`.
 #[tactic(auto, unfolding(model::specs::Access::column_of))]
 fn column(n: Need) -> usize
     ensures { (result ≡ access.column_of (need_view n)) × (result < 3) }
@@ -91,7 +91,7 @@ impl From<Access> for Cause {
     }
 }
 
-// "The fault is that of the original access: fetch 1, load 5, store 7."
+// "The fault is that of the original access: fetch 1, load 5, store 7." No `From`, as in `need_of`: it is a rule of the paper.
 #[tactic(auto, unfolding(model::specs::Access::original_of))]
 pub fn cause_of(kind: Kind) -> Cause
     ensures { cause_number result ≡ access.cause_of (access.original_of (kind_of kind)) }
