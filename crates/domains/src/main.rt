@@ -6,7 +6,7 @@ ghost use Rattle.std.specs.Prelude.{◌<◌};
 
 use monitor::{Outcome, Reply};
 use std::io;
-use types::{Access, Address, Answer, Fence, Frame, Kind, PageNumber, Privilege, Refusal, Sdid};
+use types::{Access, Address, Fence, Frame, Kind, PageNumber, Privilege, Refusal, Sdid};
 
 fn frame() -> Frame {
     Frame {
