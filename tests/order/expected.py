@@ -48,6 +48,7 @@ EXPECTED = {
     "assignments": """
 table/store store_word: words[at], words: &mut[Word]
 marks/lib take: marks[at], marks: &mut Marks
+sound/lib admit: *free, free: &mut Marks
 apart/crowd gather: tables[count], tables = [0usize;8]
 slots/lib open_at: after[slot as usize], after = slots: [Word;8]
 slots/lib close_at: after[at], after = slots: [Word;8]
@@ -58,8 +59,8 @@ words: &mut[Word]
 marks: &mut Marks
 free: &mut Marks
 sdids: &mut Marks
-&mut free
 &mut left
+&mut marks
 &mut sdids
 f: &mut fmt::Formatter<W>
 """,
@@ -80,7 +81,7 @@ sound/pick next_free(f:Frame,n:usize,free:&mut Marks): sound/pick free_pages 2
     # those that lead to an edit's stores, or mark pages, do so once: they do not loop
     "loops": "",
     # what is asked of a value beside its length: its elements, which of two numbers, whether there is one; and nothing that could store
-    "methods": "apart/lib is_some, apart/who enumerate, apart/who iter, forms/blocks is_none 2, forms/blocks rev, forms/gibs then_some, forms/pieces then_some 2, marks/lib enumerate, marks/lib iter, sound/lib step_by, types/needed_page and, types/needed_page unwrap_or, types/pages min, types/pages saturating_sub",
+    "methods": "apart/lib is_some, apart/who enumerate, apart/who iter, forms/blocks is_err 2, forms/blocks rev, marks/lib enumerate, marks/lib iter, sound/lib step_by, types/needed_page and, types/needed_page unwrap_or, types/pages min, types/pages saturating_sub",
     # names that would hide one of these: an import or a type under another name, a reference that a pattern makes, code from elsewhere; and what a
     # trait calls: the conversions of codes and numbers and the texts of answers, none of which is lent a word
     "other names": """

@@ -1,7 +1,7 @@
 """Wrong texts on which `run` tries itself: which reading must find it, where, and what stands there in the place of what."""
 STORE, PUT, ROWS, BLOCK, EDIT = "table/src/store.rt", "entries/src/put.rt", "entries/src/rows.rt", "edit/src/block.rt", "edit/src/lib.rt"
 ONCE, BEGIN = "let Some(rest) = store_range(edit, words, free, start) else {", "let mut rest = left;"
-LINK, ADMIT = "link_table(edit, words, NewPage { block, page: new }, left)", "let marks = admit(f, words, slots)?;"
+LINK, ADMIT = "link_table(edit, words, NewPage { block, page: new }, left)", "let mut marks = no_marks();\n    admit(f, words, slots, &mut marks)?;\n    if not_empty"
 LATER = "pub fn fill("
 RANGE, ANSWER = "edit/proofs/store_range/Answers.antt", "\npub loop-b-init :"
 WRONG = [
@@ -23,11 +23,11 @@ WRONG = [
     ("assignments", ROWS, LATER, "fn sneak(words: &mut [Word], at: usize)\n    ghost ss: { List Store }\n    requires inside { at < length words.old }\n    ensures* { one }\n    ensures low { result ≡ at }\n{ words[at] = 0; }\n\n" + LATER),
     ("assignments", ROWS, LATER, "#[tactic(auto, using(crate::proofs::Rows::row))]\nfn sneak(words: &mut [Word], at: usize) { words[at] = 0; }\n\n" + LATER),
     ("assignments", "slots/src/lib.rt", "let mut after = slots;\n    after[slot", "let mut after = words;\n    after[slot"),
-    ("assignments", "sound/src/lib.rt", "let mut free = all_marks();", "let mut free = all_marks(); free[0] = 0;"),
-    ("assignments", "sound/src/lib.rt", "let mut free = all_marks();", "let mut free = all_marks(); *words = others;"),
+    ("assignments", "sound/src/lib.rt", "*free = all_marks();", "let free = others; *free = all_marks();"),
+    ("assignments", "sound/src/lib.rt", "*free = all_marks();", "*free = all_marks(); *words = others;"),
     ("assignments", "marks/src/lib.rt", "marks[at] = word - bit;", "let marks = words; marks[at] = word - bit;"),
     ("&mut", "marks/src/lib.rt", "take(marks: &mut Marks,", "take(marks: &mut [u64],"),
-    ("marks", "slots/src/lib.rt", ADMIT, "admit(f, words, slots)?; " + ADMIT),
+    ("marks", "slots/src/lib.rt", ADMIT, ADMIT.replace("if", "admit(f, words, slots, &mut marks)?;\n    if")),
     ("loops", "slots/src/lib.rt", ADMIT, "for i in 0..2usize { } " + ADMIT),
     ("marks", "slots/src/lib.rt", "    Ok(open_at(f,", "    let other = free_pages(f, words.len(), &marks); Ok(open_at(f,"),
     ("marks", "sound/src/pick.rt", "n: usize, free: &Marks", "words: &[Word], free: &Marks"),

@@ -155,12 +155,19 @@ fn alone(even: Masks, count: usize) -> bool
     false
 }
 
-// The first page of block b that is crowded, counted from its first, if one is.
-fn in_block(f: Frame, words: &[Word], slots: [Word; 8], b: u64, s: Strength) -> Option<u64>
-    requires { (b < MAX-BLOCKS) × BlockOf (frame_of f words.now) b × AllRooted (frame_of f words.now) words.now slots }
+// The first page of block b that is crowded, counted from its first, if one is: by what is gathered of the block. What is gathered is handed on by value, since
+// a compiler cleared its whole place before it was gathered there, on RISC-V by a call of `memset`. f, slots and b are there for the contract alone.
+fn in_shares(
+    f: Frame,
+    words: &[Word],
+    slots: [Word; 8],
+    b: u64,
+    s: Strength,
+    shares: Shares,
+) -> Option<u64>
+    requires { (b < MAX-BLOCKS) × BlockOf (frame_of f words.now) b × GatheredAll (frame_of f words.now) words.now (strength_of s) slots b slot_count shares }
     ensures { FirstOf (crowded (frame_of f words.now) words.now slots (strength_of s)) (b * block_pages) block_pages result }
 {
-    let shares = gather(f, words, slots, b, s);
     if shares.count == 0 {
         return in_pieces(shares.even);
     }
@@ -168,6 +175,15 @@ fn in_block(f: Frame, words: &[Word], slots: [Word; 8], b: u64, s: Strength) -> 
         return None;
     }
     in_tables(words, &shares.tables[..shares.count], shares.even, s)
+}
+
+// The same, where nothing is gathered of the block yet.
+fn in_block(f: Frame, words: &[Word], slots: [Word; 8], b: u64, s: Strength) -> Option<u64>
+    requires { (b < MAX-BLOCKS) × BlockOf (frame_of f words.now) b × AllRooted (frame_of f words.now) words.now slots }
+    ensures { FirstOf (crowded (frame_of f words.now) words.now slots (strength_of s)) (b * block_pages) block_pages result }
+{
+    let shares = gather(f, words, slots, b, s);
+    in_shares(f, words, slots, b, s, shares)
 }
 
 // The lowest page that is crowded, if one is: open to two slots, one of which reaches it.

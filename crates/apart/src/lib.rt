@@ -17,7 +17,7 @@ ghost use Rattle.types.specs.Views.{strength_of, separation_of};
 
 use crate::crowd::crowded_page;
 use crate::who::{pair_fault, reached_by, table_fault};
-use marks::{Marks, stands};
+use marks::{Marks, no_marks, stands};
 use sound::admit;
 use table::board::{PAGE_WORDS, Word};
 use types::{Frame, PageNumber, Refusal, Separation, Strength};
@@ -84,6 +84,7 @@ fn apart_admitted(
 pub fn apart(f: Frame, words: &[Word], slots: [Word; 8], s: Strength) -> Result<Separation, Refusal>
     ensures { separation_of result ≡ apart_answer (frame_of f words.now) words.now slots (strength_of s) }
 {
-    let marks = admit(f, words, slots)?;
+    let mut marks = no_marks();
+    admit(f, words, slots, &mut marks)?;
     Ok(apart_admitted(f, words, slots, &marks, s))
 }

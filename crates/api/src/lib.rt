@@ -83,8 +83,9 @@ pub extern "C" fn mpt_sound(paw: u64, first: u64, words: &[Word], slots: &[Word;
         paw,
         first: PageNumber(first),
     };
-    match sound::admit(f, words, *slots) {
-        Ok(_) => 0,
+    let mut marks = marks::no_marks();
+    match sound::admit(f, words, *slots, &mut marks) {
+        Ok(()) => 0,
         Err(why) => u64::from(why),
     }
 }

@@ -1,9 +1,9 @@
 // The stores of one block.
 ghost use Rattle.model.specs.Layout.{gib_blocks};
-ghost use Rattle.std.specs.Prelude.{◌≡◌, true, IfSome, ◌+◌, ◌-◌, ◌*◌, ◌/◌, ◌%◌, ◌≤◌, ◌<◌, ◌^◌, drop};
+ghost use Rattle.std.specs.Prelude.{◌≡◌, true, IfOk, ◌+◌, ◌-◌, ◌*◌, ◌/◌, ◌%◌, ◌≤◌, ◌<◌, ◌^◌, drop};
 ghost use mathlib.Core.List.{List, head_d};
 ghost use Rattle.sequence.specs.GibBlocks.{HasNewPage, Advanced};
-ghost use Rattle.shapes.specs.Blocks.{Encodes, stores_over};
+ghost use Rattle.shapes.specs.Blocks.{Encodes, one_in, stores_over};
 ghost use Rattle.shapes.specs.Ahead.{Ahead};
 ghost use Rattle.shapes.specs.Run.{out, run};
 ghost use Rattle.model.specs.Forms.{want_table};
@@ -143,7 +143,7 @@ fn mixed_blocks(
         × Ahead words.old (stores_over (frame_of edit.f words.old) words.old (request_of edit.q) edit.root.0 None (gib_blocks - b % gib_blocks) b (drop next (free_list free))) }
     ensures { Advanced (frame_of edit.f words.old) words.old (request_of edit.q) edit.root.0 None b (free_list free) next left result words.new }
 {
-    let n = blocks_outside(edit, b);
+    let n = blocks_outside(edit.q, b);
     let at = page_at(edit.f, words, edit.root) + b as usize;
     let row = pieces_row(words, at, n as usize, left);
     if row.count == 0 {
@@ -156,23 +156,23 @@ fn mixed_blocks(
     }
 }
 
-// The next blocks of a GiB, whose one permission is given if it has one: all that are left of it, or as above.
+// The next blocks of a GiB, of which is given what was found: all that are left of it, if it is of one permission, or as above.
 pub fn next_blocks(
     edit: Edit,
     words: &mut [Word],
-    gib: Option<u64>,
+    gib: Result<u64, u64>,
     b: u64,
     free: Free,
     next: u64,
     left: Budget,
 ) -> BlocksProgress
-    requires { Rooted (frame_of edit.f words.old) words.old edit.root.0 × (b / gib_blocks * gib_blocks + gib_blocks ≤ blocks (frame_of edit.f words.old)) × IfSome gib (λ p. p < 4) × (next < 2 ^ 32)
-        × HasNewPage (frame_of edit.f words.old) words.old (request_of edit.q) edit.root.0 gib b (head_d (drop next (free_list free)) 0)
-        × Ahead words.old (stores_over (frame_of edit.f words.old) words.old (request_of edit.q) edit.root.0 gib (gib_blocks - b % gib_blocks) b (drop next (free_list free))) }
-    ensures { Advanced (frame_of edit.f words.old) words.old (request_of edit.q) edit.root.0 gib b (free_list free) next left result words.new }
+    requires { Rooted (frame_of edit.f words.old) words.old edit.root.0 × (b / gib_blocks * gib_blocks + gib_blocks ≤ blocks (frame_of edit.f words.old)) × IfOk gib (λ p. p < 4) × (next < 2 ^ 32)
+        × HasNewPage (frame_of edit.f words.old) words.old (request_of edit.q) edit.root.0 (one_in gib) b (head_d (drop next (free_list free)) 0)
+        × Ahead words.old (stores_over (frame_of edit.f words.old) words.old (request_of edit.q) edit.root.0 (one_in gib) (gib_blocks - b % gib_blocks) b (drop next (free_list free))) }
+    ensures { Advanced (frame_of edit.f words.old) words.old (request_of edit.q) edit.root.0 (one_in gib) b (free_list free) next left result words.new }
 {
     match gib {
-        Some(p) => flat_blocks(edit, words, p, b, free, next, left),
-        None => mixed_blocks(edit, words, b, free, next, left),
+        Ok(p) => flat_blocks(edit, words, p, b, free, next, left),
+        Err(_) => mixed_blocks(edit, words, b, free, next, left),
     }
 }

@@ -30,7 +30,7 @@ fn store_range(edit: Edit, words: &mut [Word], free: Free, limit: Budget) -> Opt
 {
     let end = ((edit.q.start.0 + edit.q.size - 1) / GIB_BYTES + 1) * GIB_BLOCKS;
     let mut b = edit.q.start.0 / GIB_BYTES * GIB_BLOCKS;
-    let mut gib = None;
+    let mut gib = Err(0);
     let mut next: u64 = 0;
     let mut left = limit;
     while b < end {

@@ -127,7 +127,7 @@ fn near_end(edit: Edit, b: u64, from: u64) -> u64
     requires { (b < MAX-BLOCKS) × (from ≤ PAGE-WORDS) }
     ensures { (from ≤ result) × (result ≤ PAGE-WORDS) × Past (request_of edit.q) b result }
 {
-    let past = past_entry(edit, b);
+    let past = past_entry(edit.q, b);
     if past < from {
         return from;
     }
@@ -141,7 +141,7 @@ pub fn fill_page(edit: Edit, words: &mut [Word], new: NewPage, left: Budget) -> 
     ensures { let ss = new_table (frame_of edit.f words.old) words.old (request_of edit.q) (entry_of new.block.e) new.block.b new.page.0 in
         out result words.new ≡ run left ss words.old }
 {
-    let from = first_entry(edit, new.block.b);
+    let from = first_entry(edit.q, new.block.b);
     let to = near_end(edit, new.block.b, from);
     let below = old_entries(edit, words, new, 0, from, left)?;
     let near = new_entries(edit, words, new, from, to, below)?;

@@ -48,8 +48,8 @@ fn same_table(edit: Edit, words: &mut [Word], t: PageNumber, b: u64, left: Budge
     ensures { let ss = same_table (frame_of edit.f words.old) words.old (request_of edit.q) (entry.table t.0) b t.0 in
         out result words.new ≡ run left ss words.old }
 {
-    let from = first_entry(edit, b);
-    let to = past_entry(edit, b);
+    let from = first_entry(edit.q, b);
+    let to = past_entry(edit.q, b);
     let mut more = left;
     for i in from..to {
         more = same_entry(edit, words, t, b, i, more)?;
@@ -70,7 +70,7 @@ pub fn own_table(
     ensures { let ss = same_table (frame_of edit.f words.old) words.old (request_of edit.q) (entry.table t.0) b t.0 in
         out result words.new ≡ run left ss words.old }
 {
-    match lies(edit, b * BLOCK_PAGES, BLOCK_PAGES) {
+    match lies(edit.q, b * BLOCK_PAGES, BLOCK_PAGES) {
         Place::Outside => Some(left),
         Place::Inside | Place::Across => same_table(edit, words, t, b, left),
     }

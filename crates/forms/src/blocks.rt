@@ -22,7 +22,7 @@ fn pieces_form(edit: Edit, words: &[Word], block: Block) -> Form
 {
     let mut info: u64 = 0;
     for i in (0..PIECES).rev() {
-        let Some(p) = piece_at(edit, words, block, i) else {
+        let Ok(p) = piece_at(edit, words, block, i) else {
             return Form::Table;
         };
         info = p + 4 * info;
@@ -38,9 +38,7 @@ fn cut_form(edit: Edit, words: &[Word], block: Block) -> Form
 {
     let first = edit.q.start.0 / PIECE_BYTES % PIECES;
     let past = (edit.q.start.0 + edit.q.size) / PIECE_BYTES % PIECES;
-    if piece_at(edit, words, block, first).is_none()
-        || piece_at(edit, words, block, past).is_none()
-    {
+    if piece_at(edit, words, block, first).is_err() || piece_at(edit, words, block, past).is_err() {
         return Form::Table;
     }
     pieces_form(edit, words, block)
@@ -78,7 +76,7 @@ pub fn block_form(edit: Edit, words: &[Word], gib: Option<u64>, block: Block) ->
     if let Some(p) = gib {
         return Form::Flat(p);
     }
-    match lies(edit, block.b * BLOCK_PAGES, BLOCK_PAGES) {
+    match lies(edit.q, block.b * BLOCK_PAGES, BLOCK_PAGES) {
         Place::Inside => Form::Pieces(edit.q.permission * EACH_PIECE),
         Place::Outside => outside_form(edit, words, block),
         Place::Across => across_form(edit, words, block),

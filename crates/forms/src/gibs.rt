@@ -34,33 +34,37 @@ fn blocks_are(edit: Edit, words: &[Word], g: u64, p: u64) -> bool
     true
 }
 
-// The one permission of a GiB, if it has one, once the edit is whole. A GiB wholly in the range has the asked one, without a read.
-fn gib_of(edit: Edit, words: &[Word], g: u64) -> Option<u64>
+// The one permission of a GiB, once the edit is whole; as an error, that of its first page, if it has not one. A GiB wholly in the range has the asked one,
+// without a read.
+fn gib_of(edit: Edit, words: &[Word], g: u64) -> Result<u64, u64>
     requires { Rooted (frame_of edit.f words.now) words.now edit.root.0 × (g * gib_blocks + gib_blocks ≤ blocks (frame_of edit.f words.now)) }
     ensures { GibIs (frame_of edit.f words.now) words.now (request_of edit.q) edit.root.0 g result }
 {
-    match lies(edit, g * GIB_PAGES, GIB_PAGES) {
-        Place::Inside => Some(edit.q.permission),
+    match lies(edit.q, g * GIB_PAGES, GIB_PAGES) {
+        Place::Inside => Ok(edit.q.permission),
         Place::Outside | Place::Across => read_gib(edit, words, g),
     }
 }
 
 // A GiB whose first page has another permission than the asked one is mixed, if the range has a page of it.
-fn read_gib(edit: Edit, words: &[Word], g: u64) -> Option<u64>
+fn read_gib(edit: Edit, words: &[Word], g: u64) -> Result<u64, u64>
     requires { Rooted (frame_of edit.f words.now) words.now edit.root.0 × (g * gib_blocks + gib_blocks ≤ blocks (frame_of edit.f words.now)) }
     ensures { GibIs (frame_of edit.f words.now) words.now (request_of edit.q) edit.root.0 g result }
 {
     let b = g * GIB_BLOCKS;
     let e = entry_at(edit.f, words, edit.root, b);
     let p = piece_first(edit, words, Block { b, e }, 0);
-    if p != edit.q.permission && meets(edit, b * BLOCK_PAGES, GIB_PAGES) {
-        return None;
+    if p != edit.q.permission && meets(edit.q, b * BLOCK_PAGES, GIB_PAGES) {
+        return Err(p);
     }
-    blocks_are(edit, words, g, p).then_some(p)
+    if blocks_are(edit, words, g, p) {
+        return Ok(p);
+    }
+    Err(p)
 }
 
 // The first block of a GiB decides for its GiB, before the GiB's first store.
-pub fn gib_at(edit: Edit, words: &[Word], b: u64, gib: Option<u64>) -> Option<u64>
+pub fn gib_at(edit: Edit, words: &[Word], b: u64, gib: Result<u64, u64>) -> Result<u64, u64>
     requires { Rooted (frame_of edit.f words.now) words.now edit.root.0 × (b / gib_blocks * gib_blocks + gib_blocks ≤ blocks (frame_of edit.f words.now))
         × ((b % gib_blocks ≡ 0 → ⊥) → GibIs (frame_of edit.f words.now) words.now (request_of edit.q) edit.root.0 (b / gib_blocks) gib) }
     ensures { GibIs (frame_of edit.f words.now) words.now (request_of edit.q) edit.root.0 (b / gib_blocks) result }
@@ -93,7 +97,7 @@ fn block_new_pages(edit: Edit, words: &[Word], b: u64) -> u64
         (entry_at (frame_of edit.f words.now) words.now edit.root.0 b) b)
         (entry_at (frame_of edit.f words.now) words.now edit.root.0 b) then 1 else 0) }
 {
-    match lies(edit, b * BLOCK_PAGES, BLOCK_PAGES) {
+    match lies(edit.q, b * BLOCK_PAGES, BLOCK_PAGES) {
         Place::Inside => 0,
         Place::Outside | Place::Across => read_page(edit, words, b),
     }

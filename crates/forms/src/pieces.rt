@@ -65,7 +65,7 @@ fn piece_is(edit: Edit, words: &[Word], block: Block, i: u64, p: u64) -> bool
     requires { (i < PIECES) × (p < 4) × Good (frame_of edit.f words.now) words.now (entry_of block.e) }
     ensures { result ≡ all_are (frame_of edit.f words.now) words.now (request_of edit.q) (entry_of block.e) p PIECE-PAGES (block.b * block_pages + i * PIECE-PAGES) }
 {
-    match lies(edit, block.b * BLOCK_PAGES + i * PIECE_PAGES, PIECE_PAGES) {
+    match lies(edit.q, block.b * BLOCK_PAGES + i * PIECE_PAGES, PIECE_PAGES) {
         Place::Inside => edit.q.permission == p,
         Place::Outside => old_piece_is(edit, words, block, i, p),
         Place::Across => words_are(edit, words, block, i * PIECE_WORDS, p),
@@ -102,7 +102,7 @@ pub fn block_is(edit: Edit, words: &[Word], block: Block, p: u64) -> bool
     requires { (p < 4) × Good (frame_of edit.f words.now) words.now (entry_of block.e) }
     ensures { result ≡ all_are (frame_of edit.f words.now) words.now (request_of edit.q) (entry_of block.e) p block_pages (block.b * block_pages) }
 {
-    match lies(edit, block.b * BLOCK_PAGES, BLOCK_PAGES) {
+    match lies(edit.q, block.b * BLOCK_PAGES, BLOCK_PAGES) {
         Place::Inside => edit.q.permission == p,
         Place::Outside => old_block_is(edit, words, block, p),
         Place::Across => pieces_are(edit, words, block, p),
@@ -125,31 +125,38 @@ fn old_first(edit: Edit, words: &[Word], block: Block, i: u64) -> u64
     wide(old_word(edit.f, words, block.e, i * PIECE_WORDS)) % FIELD_VALUES
 }
 
-// The one permission of a piece outside the range, if it has one: apart from `cut_piece` and from `piece_first`, so that where a piece lies is asked once.
-fn old_piece(edit: Edit, words: &[Word], block: Block, i: u64) -> Option<u64>
+// The one permission of a piece outside the range; as an error, that of its first page, if it has not one. Apart from `cut_piece` and from `piece_first`, so
+// that where a piece lies is asked once.
+fn old_piece(edit: Edit, words: &[Word], block: Block, i: u64) -> Result<u64, u64>
     requires { (i < PIECES) × Good (frame_of edit.f words.now) words.now (entry_of block.e) × Lies (request_of edit.q) (block.b * block_pages + i * PIECE-PAGES) PIECE-PAGES Place.Outside }
     ensures { PieceIs (frame_of edit.f words.now) words.now (request_of edit.q) (entry_of block.e) block.b i result }
 {
     let p = old_first(edit, words, block, i);
-    old_piece_is(edit, words, block, i, p).then_some(p)
+    if old_piece_is(edit, words, block, i, p) {
+        return Ok(p);
+    }
+    Err(p)
 }
 
 // The same for a piece across an end of the range.
-fn cut_piece(edit: Edit, words: &[Word], block: Block, i: u64) -> Option<u64>
+fn cut_piece(edit: Edit, words: &[Word], block: Block, i: u64) -> Result<u64, u64>
     requires { (i < PIECES) × Good (frame_of edit.f words.now) words.now (entry_of block.e) }
     ensures { PieceIs (frame_of edit.f words.now) words.now (request_of edit.q) (entry_of block.e) block.b i result }
 {
     let p = piece_first(edit, words, block, i);
-    piece_is(edit, words, block, i, p).then_some(p)
+    if piece_is(edit, words, block, i, p) {
+        return Ok(p);
+    }
+    Err(p)
 }
 
-// The one permission of piece i of a block, if it has one, once the edit is whole: where it lies is asked once.
-pub fn piece_at(edit: Edit, words: &[Word], block: Block, i: u64) -> Option<u64>
+// The one permission of piece i of a block, once the edit is whole; as an error, that of its first page, if it has not one. Where it lies is asked once.
+pub fn piece_at(edit: Edit, words: &[Word], block: Block, i: u64) -> Result<u64, u64>
     requires { (i < PIECES) × Good (frame_of edit.f words.now) words.now (entry_of block.e) }
     ensures { PieceIs (frame_of edit.f words.now) words.now (request_of edit.q) (entry_of block.e) block.b i result }
 {
-    match lies(edit, block.b * BLOCK_PAGES + i * PIECE_PAGES, PIECE_PAGES) {
-        Place::Inside => Some(edit.q.permission),
+    match lies(edit.q, block.b * BLOCK_PAGES + i * PIECE_PAGES, PIECE_PAGES) {
+        Place::Inside => Ok(edit.q.permission),
         Place::Outside => old_piece(edit, words, block, i),
         Place::Across => cut_piece(edit, words, block, i),
     }

@@ -70,7 +70,7 @@ pub fn after_word(edit: Edit, words: &[Word], block: Block, i: u64) -> Word
     ensures { result ≡ l1_word (frame_of edit.f words.now) words.now (request_of edit.q) (entry_of block.e) block.b i }
 {
     let s = block.b * BLOCK_PAGES + i * FIELDS;
-    match lies(edit, s, FIELDS) {
+    match lies(edit.q, s, FIELDS) {
         Place::Inside => spread(edit.q.permission),
         Place::Outside => old_word(edit.f, words, block.e, i),
         Place::Across => mixed_word(edit, s, old_word(edit.f, words, block.e, i)),

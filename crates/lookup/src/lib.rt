@@ -1,12 +1,14 @@
 // The lookup: frame, register, privilege, Bare, walk, permission.
 #![tactic(auto)]
 
-ghost use Rattle.std.specs.Prelude.{◌≡◌, true, ◌<◌};
-ghost use Rattle.model.specs.Frame.{bounds_ok};
+ghost use Rattle.std.specs.Prelude.{◌≡◌, true, ◌<◌, if◌then◌else◌};
+ghost use Rattle.model.specs.Entry.{perm};
+ghost use Rattle.model.specs.Frame.{bounds_ok, page_of};
+ghost use Rattle.model.specs.Register.{is_bare, ppn_of};
 ghost use Rattle.model.specs.Walk as walk;
 ghost use Rattle.model.specs.Access as access;
 ghost use Rattle.model.specs.Lookup as lookup;
-ghost use Rattle.table.specs.Board.{MAX-BLOCKS, frame_of};
+ghost use Rattle.table.specs.Board.{board, MAX-BLOCKS, frame_of};
 ghost use Rattle.types.specs.Views.{entry_of, found_of, permission_number, need_view, kind_of, cause_number, privilege_of, answer_of};
 ghost use Rattle.lookup.specs.Granted.{granted_of};
 ghost use Rattle.table.specs.Bounds.{Small};
@@ -93,6 +95,28 @@ fn judge(found: Option<Permission>, need: Need, cause: Cause) -> Answer
     Answer::Fault(cause)
 }
 
+// "effective privilege M is allowed; Bare is allowed; else the walk": what is allowed is found as rwx, which serves every access. So there is one place at which
+// an access is judged, and a compiler makes that choice without a branch.
+fn reached(
+    f: Frame,
+    words: &[Word],
+    register: Word,
+    privilege: Privilege,
+    a: Address,
+) -> Option<Permission>
+    requires { bounds_ok (frame_of f words.now) ≡ true }
+    ensures { found_of result ≡ (if lookup.is_machine (privilege_of privilege) then perm 3 else if is_bare board register then perm 3 else
+        walk.walk (frame_of f words.now) words.now (ppn_of board register) (page_of a.0)) }
+{
+    if privilege == Privilege::Machine {
+        return Some(Permission::Rwx);
+    }
+    if register::is_bare(register) {
+        return Some(Permission::Rwx);
+    }
+    walk(f, words, register::ppn(register), pages::page_of(a))
+}
+
 // "A lookup checks the frame, then the register, then: effective privilege M is allowed; Bare is allowed; else the walk." What the access
 // needs, and its fault, are asked before the walk: the answer is then one choice between two values at hand.
 pub fn lookup(
@@ -113,12 +137,6 @@ pub fn lookup(
     if !register::register_ok(register) {
         return Err(Refusal::Register);
     }
-    if privilege == Privilege::Machine {
-        return Ok(Answer::Allowed);
-    }
-    if register::is_bare(register) {
-        return Ok(Answer::Allowed);
-    }
-    let found = walk(f, words, register::ppn(register), pages::page_of(a));
+    let found = reached(f, words, register, privilege, a);
     Ok(judge(found, need, cause))
 }

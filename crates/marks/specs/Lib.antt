@@ -1,2 +1,2 @@
---   Marks   marks as bits of words: which one stands, one taken away, all of them, the lowest
+--   Marks   marks as bits of words: which one stands, one taken away, none and all of them, the lowest
 pub mod Marks

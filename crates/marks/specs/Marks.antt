@@ -23,7 +23,10 @@ mark_at marks i = eqb (digit 2 (get_or marks (i / WORD-MARKS) 0) (i % WORD-MARKS
 unfoldable pub unmark : Marks → ℕ → Marks
 unmark marks i = if mark_at marks i then set marks (i / WORD-MARKS) (get_or marks (i / WORD-MARKS) 0 - 2 ^ (i % WORD-MARKS)) else marks
 
--- all of them
+-- none of them, and all of them
+abbrev pub no_marks : Marks
+no_marks = replicate WORDS 0
+
 abbrev pub all_marks : Marks
 all_marks = replicate WORDS (2 ^ WORD-MARKS - 1)
 

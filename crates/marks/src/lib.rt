@@ -2,7 +2,7 @@
 #![tactic(auto)]
 
 ghost use Rattle.std.specs.Prelude.{◌≡◌, ◌<◌};
-ghost use Rattle.marks.specs.Marks.{MARKS, mark_at, unmark, all_marks, LowestBit, LowestMark};
+ghost use Rattle.marks.specs.Marks.{MARKS, mark_at, unmark, no_marks, all_marks, LowestBit, LowestMark};
 
 use types::bits::pow2;
 
@@ -12,6 +12,13 @@ pub type Marks = [u64; 4];
 const WORDS: usize = 4;
 
 const WORD_MARKS: usize = 64;
+
+// None of them stands: no page, and no SDID, is free.
+pub fn no_marks() -> Marks
+    ensures { result ≡ no_marks }
+{
+    [0; WORDS]
+}
 
 // All of them stand.
 pub fn all_marks() -> Marks

@@ -13,7 +13,7 @@ pub use apart::apart;
 use edit::make;
 use forms::gibs::new_pages;
 pub use lookup::lookup;
-use marks::Marks;
+use marks::{Marks, no_marks};
 use range::bounds::{bad_range, on_lent_pages, write_execute};
 use slots::answer;
 use slots::named::not_open;
@@ -73,7 +73,8 @@ fn edit_slot(
     requires { q.permission < 4 }
     ensures { outcome_of (answered slots result) words.new ≡ calls.edit_slot (frame_of f words.old) words.old slots (request_of q) limit }
 {
-    let marks = admit(f, words, slots)?;
+    let mut marks = no_marks();
+    admit(f, words, slots, &mut marks)?;
     if not_open(slots, q.slot) {
         return Err(Refusal::Slot);
     }

@@ -1,6 +1,6 @@
 -- Refusals 1 and 3, by what the two passes leave, and once for every call: whatever tests come after, a call that is not admitted is refused with
 -- the number that `admit` answers.
-use Rattle.std.specs.Prelude.{Option, if◌then◌else◌, Some, None, Ok}
+use Rattle.std.specs.Prelude.{Option, if◌then◌else◌, Some, None}
 use mathlib.Core.Path.{◌≡◌, refl, sym, ap, ◌∙◌, subst}
 use mathlib.Core.Bool.{Bool, true, false, not}
 use mathlib.Core.List.{List, ◌∷◌}
@@ -17,7 +17,7 @@ use Rattle.types.specs.declared.Refusal.{Refusal}
 use Rattle.types.specs.declared.Refusal.TheVariants as refusal
 use Rattle.types.specs.Views.{refusal_number}
 use Rattle.marks.specs.Marks.{Marks, all_marks}
-use Rattle.scan.specs.Admission.{admission_of, MarkedFree, AdmissionIs, Admitted}
+use Rattle.scan.specs.Admission.{admission_of, MarkedFree, Admitted}
 use Rattle.scan.specs.Scan.{unsound, marked, scan_all, register_step, slot_step}
 use Rattle.scan.proofs.Laws.{marked_exactly_when_free}
 use Rattle.scan.proofs.Pass.{registers_said, tables_said}
@@ -98,7 +98,7 @@ pub not_admitted : (F : Frame) (m : List ℕ) (slots : List Slot) (r : Refusal) 
 not_admitted F m slots r rest done n h e = refused_whatever F m slots r rest done (refuse F m slots) n h e
 
 -- and one that passes them
-pub admitted : (F : Frame) (m : List ℕ) (slots : List Slot) (marks : Marks) → AdmissionIs F m slots (Ok marks) → Admitted F m slots marks
+pub admitted : (F : Frame) (m : List ℕ) (slots : List Slot) (marks : Marks) → (admission_of F m slots ≡ None) × MarkedFree F m slots marks → Admitted F m slots marks
 unfolding admission_of
 admitted F m slots marks h =
     let passed = both_passed (frame_ok F m) (sound F m slots) h.0 in

@@ -164,3 +164,8 @@ module _ (F : Frame) (m : List ℕ) (r : ℕ) where
 
     pub left_stopped : unsound ≡ scan_run (word_step F m a) k p 0 → left e a k ≡ unsound
     left_stopped said = turn ∙ ap (λ (t : Scan). then_scan t (λ o. left e (a + p) o)) (sym said)
+
+  -- one entry by itself
+  pub one_entry : (a : ℕ) (k : Marks) → scan_run (word_step F m a) k 1 0 ≡ entry_step F m k (decode F.layout (get_or m a 0))
+  unfolding scan_run
+  one_entry a k = ap (λ (i : ℕ). then_scan (entry_step F m k (decode F.layout (get_or m i 0))) marked) (add-zero a) ∙ then_marked _

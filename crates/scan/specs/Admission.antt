@@ -16,10 +16,10 @@ module _ (F : Frame) (m : List ℕ) (slots : List Slot) where
   abbrev pub MarkedFree : Marks → Type 0
   MarkedFree marks = (page : ℕ) → lent F page ≡ true → mark_at marks (page - F.first) ≡ member page (free_pages F m (roots F slots))
 
-  -- what is answered: the refusal that fits, or if none does the marks of the free pages
-  abbrev pub AdmissionIs : Result Marks Refusal → Type 0
-  AdmissionIs (Ok marks) = (admission_of ≡ None) × MarkedFree marks
-  AdmissionIs (Err why) = admission_of ≡ Some why
+  -- what is answered: the refusal that fits, or none, and then the marks are those of the free pages
+  abbrev pub AdmissionIs : {A : Type 0} → Result A Refusal → Marks → Type 0
+  AdmissionIs (Ok done) marks = (admission_of ≡ None) × MarkedFree marks
+  AdmissionIs (Err why) marks = admission_of ≡ Some why
 
   -- neither refusal fits, and the marks are those of the free pages
   pub record Admitted (marks : Marks) : Type 0 where

@@ -1,6 +1,6 @@
 -- An edit between two of its blocks: those below b are done, and what the memory as it stands has of the blocks ahead is what the edit found. So
 -- their forms, their stores and their new pages are the same from both.
-use Rattle.std.specs.Prelude.{if◌then◌else◌, Option, Some, None}
+use Rattle.std.specs.Prelude.{if◌then◌else◌, Option, Result, Ok, Err}
 use mathlib.Core.Path.{◌≡◌, refl, sym, ap, ap₂, ◌∙◌}
 use mathlib.Core.Bool.{Bool}
 use mathlib.Core.Logic.{⊎_elim}
@@ -107,13 +107,13 @@ module _ {F : Frame} {m0 : List ℕ} {q : Request} {root : ℕ} {free : List ℕ
     one_same : (p : ℕ) → gib_is_one F m q root g p ≡ gib_is_one F m0 q root g p
     one_same p = same_gib F k.ok q k.low root m0 m after_same g p u
 
-    pub gib_same : (gib : Option ℕ) → GibIs F m0 q root g gib → GibIs F m q root g gib
-    gib_same (Some p) h = (h.0 ∙ sym first_same, one_same p ∙ h.1, h.2)
-    gib_same None h = one_same (gib_first F m q root g) ∙ ap (gib_is_one F m0 q root g) first_same ∙ h
+    pub gib_same : (gib : Result ℕ ℕ) → GibIs F m0 q root g gib → GibIs F m q root g gib
+    gib_same (Ok p) h = (h.0 ∙ sym first_same, one_same p ∙ h.1, h.2)
+    gib_same (Err p) h = (h.0 ∙ sym first_same, one_same p ∙ h.1, h.2)
 
-    pub gib_back : (gib : Option ℕ) → GibIs F m q root g gib → GibIs F m0 q root g gib
-    gib_back (Some p) h = (h.0 ∙ first_same, sym (one_same p) ∙ h.1, h.2)
-    gib_back None h = ap (gib_is_one F m0 q root g) (sym first_same) ∙ sym (one_same (gib_first F m q root g)) ∙ h
+    pub gib_back : (gib : Result ℕ ℕ) → GibIs F m q root g gib → GibIs F m0 q root g gib
+    gib_back (Ok p) h = (h.0 ∙ first_same, sym (one_same p) ∙ h.1, h.2)
+    gib_back (Err p) h = (h.0 ∙ first_same, sym (one_same p) ∙ h.1, h.2)
 
   -- ---- the blocks ahead
 

@@ -39,13 +39,13 @@ module _ (F : Frame) (q : Request) (root sdid : ℕ) (list : List Store) (limit 
     pub all_fits : length list + l.more ≡ limit
     all_fits = (run_whole (record { more = limit; last = 0 }) list m l m' e).0
 
-    all_memory : m' ≡ apply (take limit list) m
+    pub all_memory : m' ≡ apply (take limit list) m
     all_memory = (run_whole (record { more = limit; last = 0 }) list m l m' e).1 ∙ ap (λ (x : List Store). apply x m) (sym (take_all limit list (omega (arith, all_fits))))
 
-    all_count : limit - l.more ≡ length (take limit list)
+    pub all_count : limit - l.more ≡ length (take limit list)
     all_count = let z : limit - l.more ≡ length list = omega (arith, all_fits) in z ∙ ap (λ (x : List Store). length x) (sym (take_all limit list (omega (arith, all_fits))))
 
-    all_true : true ≡ leb (length list) limit
+    pub all_true : true ≡ leb (length list) limit
     all_true = sym (le-leb (length list) limit (omega (arith, all_fits)))
 
     one_here : (x : List Store) → x ≡ list → (eqb (length x) 1 && (true && not (in_root F root l.last))) ≡ one_l1_store F root x
@@ -54,7 +54,7 @@ module _ (F : Frame) (q : Request) (root sdid : ℕ) (list : List Store) (limit 
     one_here (s ∷ []) z = ap (λ (k : ℕ). not (in_root F root k)) (last_of limit s m l m' (ap (λ (y : List Store). run (record { more = limit; last = 0 }) y m) z ∙ e))
     one_here (s ∷ t ∷ ss) z = rw (ne_eqb (suc (suc (length ss))) 1 (λ y. omega (arith, y)))
 
-    all_fence : fence_after F q root sdid (limit - l.more) true l.last ≡ fence_for F root q sdid list limit
+    pub all_fence : fence_after F q root sdid (limit - l.more) true l.last ≡ fence_for F root q sdid list limit
     unfolding fence_after fence_for
     all_fence =
         let z : limit - l.more ≡ length list = omega (arith, all_fits) in
@@ -71,13 +71,13 @@ module _ (F : Frame) (q : Request) (root sdid : ℕ) (list : List Store) (limit 
     few : limit < length list
     few = (run_short (record { more = limit; last = 0 }) list m m' e).0
 
-    cut_memory : m' ≡ apply (take limit list) m
+    pub cut_memory : m' ≡ apply (take limit list) m
     cut_memory = (run_short (record { more = limit; last = 0 }) list m m' e).1
 
-    cut_count : limit ≡ length (take limit list)
+    pub cut_count : limit ≡ length (take limit list)
     cut_count = sym (length-take-le limit list (omega (arith, few)))
 
-    cut_false : false ≡ leb (length list) limit
+    pub cut_false : false ≡ leb (length list) limit
     cut_false = sym (lt-leb (length list) limit few)
 
     many : (x : List Store) → 1 < length x → one_l1_store F root x ≡ false
@@ -91,7 +91,7 @@ module _ (F : Frame) (q : Request) (root sdid : ℕ) (list : List Store) (limit 
     no_and true false = refl
     no_and false b = refl
 
-    cut_fence : fence_after F q root sdid limit false 0 ≡ fence_for F root q sdid list limit
+    pub cut_fence : fence_after F q root sdid limit false 0 ≡ fence_for F root q sdid list limit
     unfolding fence_after fence_for
     cut_fence =
         split (eqb limit 0)

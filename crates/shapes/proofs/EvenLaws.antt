@@ -22,7 +22,7 @@ use Rattle.shapes.specs.Words.{flat_info}
 use Rattle.shapes.specs.Blocks.{Even, Mixes}
 use Rattle.types.specs.Range.{Cut}
 use Rattle.shapes.proofs.Shape.{Shape, piece_pos, pieces_pos, piece_in_block, piece_number, piece_parts, piece_lt, piece_of_lem}
-use Rattle.laws.proofs.InRange.{first_page, past_page, within, under, over, end_first, end_past}
+use Rattle.laws.proofs.InRange.{first_page, past_page, within, under, over, empty_false, end_first, end_past}
 use Rattle.shapes.proofs.Fields.{ceil_gt, ceil_le, const_digit, every_fail, pack_const}
 use Rattle.shapes.proofs.FormLaws.{first_of, is_one, form_table, known_form, info_pack}
 
@@ -45,6 +45,9 @@ module _ (F : Frame) (sh : Shape F.layout) (m : List ℕ) (q : Request) (low : q
   outside : (i k : ℕ) → i < F.layout.pieces → at i ≤ k → k < at i + PP → in_range q k ≡ false → after_in F m q e k ≡ digit 4 info i
   unfolding after_in
   outside i k u lo hi z = rw z (even i k u lo hi)
+
+  pub even_empty : first_page q ≡ past_page q → want_pieces info ≡ form_in F m q false 0 e b
+  even_empty z = known_form F sh m q low e g b (digit 4 info) info (λ i k u lo hi. outside i k u lo hi (empty_false q k z)) (info_pack F.layout.pieces info fits)
 
   -- a piece with a page in the range and one outside, and another permission than the asked one
   even_mixed : (i j k : ℕ) → i < F.layout.pieces → at i ≤ j → j < at i + PP → at i ≤ k → k < at i + PP

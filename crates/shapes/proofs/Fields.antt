@@ -5,10 +5,11 @@ use mathlib.Core.List.{List}
 use Prim.Native.Nat.{ℕ, zero, suc, ◌+◌, ◌*◌, ◌-◌, ◌/◌, ◌^◌, ◌≤◌, ◌<◌}
 use native.Mathlib.Nat.{mul-zero, mul-suc, mul-add, add-mul, mul_assoc, mul-one, one-mul, suc-mul, pow-zero, pow-suc, pow-succ', lt_of_lt_of_le, pow-le-pow_right, mul-div_cancel, le-div_iff_mul-le, div-lt_iff_lt-mul}
 use native.Mathlib.Omega.{arith}
+use native.Mathlib.Numerals.{add-one}
 use lib.Pow.{pow-add}
 use Rattle.model.specs.Layout.{Layout}
 use Rattle.shapes.specs.Words.{ones, mixed_at}
-use Rattle.laws.proofs.Choices.{split}
+use Rattle.laws.proofs.Choices.{split, and_both}
 use Rattle.laws.proofs.Digits.{pack_lt, pack_one, digit_pack}
 use Rattle.laws.proofs.Every.{every_step, every_in}
 use Rattle.laws.proofs.FieldLaws.{field_clean}
@@ -53,6 +54,17 @@ pack_const d p n s pos =
 pub const_digit : (d p n i : ℕ) → 0 < d → p < suc d → i < n → digit (suc d) (p * ones (suc d) n) i ≡ p
 const_digit d p n i pos low h = ap (λ (w : ℕ). digit (suc d) w i) (sym (pack_const d p n 0 pos)) ∙ digit_pack (suc d) (λ k. p) (λ k. low) n 0 i h
 
+-- ---- a number put together from its highest digit down
+
+module _ (base : ℕ) (f : ℕ → ℕ) where
+  pub horner : (n s j word x : ℕ) → j < n → word ≡ pack base f j (s + n - j) → x ≡ f (s + (n - 1 - j)) → x + base * word ≡ pack base f (j + 1) (s + n - (j + 1))
+  unfolding pack
+  horner n s j word x h e z =
+      let a : s + (n - 1 - j) ≡ s + n - (j + 1) = omega arith in
+      let b : s + n - j ≡ suc (s + n - (j + 1)) = omega arith in
+      ap₂ (λ (u v : ℕ). u + base * v) (z ∙ ap f a) (e ∙ ap (pack base f j) b)
+      ∙ ap (λ (k : ℕ). pack base f k (s + n - (j + 1))) (sym (add-one j))
+
 pub outside : (q : Request) (old s k : ℕ) → in_range q (s + k) ≡ false → digit 16 old k ≡ mixed_at q old s (s + k)
 outside q old s k out = let e : k ≡ s + k - s = omega arith in rw out (ap (digit 16 old) e)
 
@@ -89,6 +101,16 @@ module _ (test : ℕ → Bool) (n s i : ℕ) (h : i < n) where
 pub every_none : (test : ℕ → Bool) (n s : ℕ) → n ≡ 0 → every test n s ≡ true
 unfolding every
 every_none test n s z = ap (λ (k : ℕ). every test k s) z
+
+-- and from the highest down
+
+pub every_down : (test : ℕ → Bool) (n j : ℕ) → j < n → every test j (n - j) ≡ true → test (n - 1 - j) ≡ true → every test (j + 1) (n - (j + 1)) ≡ true
+every_down test n j h e z =
+    let a : n - 1 - j ≡ n - (j + 1) = omega arith in
+    let b : n - j ≡ suc (n - (j + 1)) = omega arith in
+    ap (λ (k : ℕ). every test k (n - (j + 1))) (add-one j)
+    ∙ every_step test j (n - (j + 1))
+    ∙ and_both (ap test (sym a) ∙ z) (ap (every test j) (sym b) ∙ e)
 
 pub every_fail : (test : ℕ → Bool) (n k : ℕ) → k < n → test k ≡ false → every test n 0 ≡ false
 every_fail test n k h z = split (every test n 0) (λ y. absurd (true≢false (sym (every_in test n 0 y k (omega arith) (omega arith)) ∙ z))) (λ y. y)

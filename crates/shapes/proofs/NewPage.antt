@@ -22,7 +22,7 @@ use Rattle.shapes.proofs.Places.{lent_same, good_same}
 use Rattle.shapes.proofs.RunLaws.{joined_end}
 
 -- the stores of a run, from a memory of the same length
-run_same : (over : ℕ → Frame) (q : Request) (e : Entry) (b new : ℕ) (m m0 : List ℕ) → Plain e → length m ≡ length m0
+pub run_same : (over : ℕ → Frame) (q : Request) (e : Entry) (b new : ℕ) (m m0 : List ℕ) → Plain e → length m ≡ length m0
     → (n i : ℕ) → new_run (over (length m)) m q e b new n i ≡ new_run (over (length m0)) m0 q e b new n i
 run_same over q e b new m m0 pl len n i = ap (λ (X : Frame). new_run X m q e b new n i) (ap over len) ∙ run_plain (over (length m0)) q b m0 m e pl new n i
 

@@ -14,7 +14,7 @@ use Rattle.laws.proofs.FrameNumbers.{lent_in}
 use Rattle.laws.proofs.Choices.{split}
 use Rattle.laws.proofs.Digits.{pack_cong, digit_pack}
 use Rattle.laws.proofs.Every.{every_all}
-use Rattle.laws.proofs.Lists.{joined_cong}
+use Rattle.laws.proofs.Lists.{joined_append, joined_cong}
 use Rattle.model.specs.Entry.{Entry, flat, pieces, table, invalid, Found, clean, encode}
 use Rattle.model.specs.Forms.{Request, Form, want_flat, want_pieces, want_table, in_range, perm_of, after_in, l1_word}
 use Rattle.model.specs.Frame.{Frame, lent, word_at, index_of}
@@ -151,9 +151,25 @@ module _ (F : Frame) (q : Request) (b : ℕ) (m m' : List ℕ) where
     stores_same same want_table (pieces p) new h = link_same (pieces p) new tt
     stores_same same want_table invalid new h = link_same invalid new tt
 
--- ---- the run of a new page, of entries that are all one word
+-- ---- the run of a new page
 
 module _ (F : Frame) (m : List ℕ) (q : Request) (e : Entry) (b new : ℕ) where
+  -- in three parts
+  pub run_parts : (from to : ℕ) → from ≤ to → to ≤ F.layout.words
+      → new_table F m q e b new ≡ new_run F m q e b new (from - 0) 0 ++ (new_run F m q e b new (to - from) from ++ new_run F m q e b new (F.layout.words - to) to)
+  unfolding new_table
+  run_parts from to h fits =
+      let W : ℕ = F.layout.words in
+      let g : ℕ → List Store = λ k. store_at F new k (l1_word F m q e b k) ∷ [] in
+      let u : W ≡ (from - 0) + ((to - from) + (W - to)) = omega arith in
+      let v : 0 + (from - 0) ≡ from = omega arith in
+      let w : from + (to - from) ≡ to = omega arith in
+      ap (λ (n : ℕ). joined g n 0) u
+      ∙ joined_append g (from - 0) ((to - from) + (W - to)) 0
+      ∙ ap (λ (l : List Store). joined g (from - 0) 0 ++ l)
+      (ap (joined g ((to - from) + (W - to))) v ∙ joined_append g (to - from) (W - to) from ∙ ap (λ (k : ℕ). joined g (to - from) from ++ joined g (W - to) k) w)
+
+  -- of entries that are all one word
   pub fill_run : (w n i : ℕ) → ((k : ℕ) → i ≤ k → k < i + n → w ≡ l1_word F m q e b k) → fill_stores w n (index_of F new i) ≡ new_run F m q e b new n i
   unfolding joined store_at
   fill_run w zero i o = refl

@@ -1,5 +1,5 @@
 -- A block and a range: pieces that an end of the range cuts, blocks of one GiB, pages that the whole edit takes.
-use Rattle.std.specs.Prelude.{◌≡◌, Bool, true, false, List, ℕ, Option, ◌+◌, ◌*◌, ◌/◌, ◌%◌, ◌^◌, ◌≤◌, ◌<◌, Some, None}
+use Rattle.std.specs.Prelude.{◌≡◌, Bool, true, false, List, ℕ, Option, Result, ◌+◌, ◌*◌, ◌/◌, ◌%◌, ◌^◌, ◌≤◌, ◌<◌, Some, None, Ok, Err}
 use Rattle.model.specs.Numbers.{digit}
 use Rattle.model.specs.Layout.{Layout, block_pages, gib_blocks, piece_pages}
 use Rattle.model.specs.Entry as entry
@@ -25,7 +25,13 @@ Mixes L q b info at false = (i : ℕ) → i < L.pieces → b * block_pages + i *
 abbrev pub block_is : frame.Frame → List ℕ → model.Request → ℕ → ℕ → ℕ → Bool
 block_is F m q root p b = model.all_are F m q (walk.entry_at F m root b) p block_pages (b * block_pages)
 
--- the one permission that all pages of a piece or a GiB have, if they have one: whether they do, and which. Where they do not, 0 stands for it
+-- what is found of a piece or a GiB: the one permission that all its pages have, or, where they have not one, that of the first. As the one
+-- permission, if they have one
+abbrev pub one_in : Result ℕ ℕ → Option ℕ
+one_in (Ok p) = Some p
+one_in (Err p) = None
+
+-- whether they have one, and which; where they have not, 0 stands for it
 abbrev pub has_one : Option ℕ → Bool
 has_one (Some p) = true
 has_one None = false
@@ -34,17 +40,17 @@ abbrev pub one_of : Option ℕ → ℕ
 one_of (Some p) = p
 one_of None = 0
 
--- piece is the one permission of piece i of block b, whose entry is e, if it has one: that of its first page, if it is all the piece's
-abbrev pub PieceIs : frame.Frame → List ℕ → model.Request → entry.Entry → ℕ → ℕ → Option ℕ → Type 0
-PieceIs F m q e b i (Some p) = (p ≡ model.after_in F m q e (model.piece_start F b i)) × (model.all_are F m q e p (piece_pages F.layout) (model.piece_start F b i) ≡ true) × (p < 4)
-PieceIs F m q e b i None = model.all_are F m q e (model.after_in F m q e (model.piece_start F b i)) (piece_pages F.layout) (model.piece_start F b i) ≡ false
+-- what piece says is so of piece i of block b, whose entry is e: the permission of its first page, and whether it is all the piece's
+abbrev pub PieceIs : frame.Frame → List ℕ → model.Request → entry.Entry → ℕ → ℕ → Result ℕ ℕ → Type 0
+PieceIs F m q e b i (Ok p) = (p ≡ model.after_in F m q e (model.piece_start F b i)) × (model.all_are F m q e p (piece_pages F.layout) (model.piece_start F b i) ≡ true) × (p < 4)
+PieceIs F m q e b i (Err p) = (p ≡ model.after_in F m q e (model.piece_start F b i)) × (model.all_are F m q e p (piece_pages F.layout) (model.piece_start F b i) ≡ false) × (p < 4)
 
 -- ---- several blocks of one GiB, by what gib says of it
 
--- gib is the one permission of GiB g, if it has one
-abbrev pub GibIs : frame.Frame → List ℕ → model.Request → ℕ → ℕ → Option ℕ → Type 0
-GibIs F m q root g (Some p) = (p ≡ model.gib_first F m q root g) × (model.gib_is_one F m q root g p ≡ true) × (p < 4)
-GibIs F m q root g None = model.gib_is_one F m q root g (model.gib_first F m q root g) ≡ false
+-- what gib says is so of GiB g: the permission of its first page, and whether it is all the GiB's
+abbrev pub GibIs : frame.Frame → List ℕ → model.Request → ℕ → ℕ → Result ℕ ℕ → Type 0
+GibIs F m q root g (Ok p) = (p ≡ model.gib_first F m q root g) × (model.gib_is_one F m q root g p ≡ true) × (p < 4)
+GibIs F m q root g (Err p) = (p ≡ model.gib_first F m q root g) × (model.gib_is_one F m q root g p ≡ false) × (p < 4)
 
 -- the finished form of block b
 abbrev pub form_in_gib : frame.Frame → List ℕ → model.Request → ℕ → Option ℕ → ℕ → model.Form

@@ -56,18 +56,18 @@ module _ (test : ℕ → Bool) (a : ℕ) (none : NoneOf test 0 a) where
       (λ q. let e : 0 + k ≡ a = omega (arith, ltb-false k a q) in ap test e ∙ h)
 
 -- the same of a test that agrees with it
-module _ (test test' : ℕ → Bool) (s s' n : ℕ) (same : (k : ℕ) → k < n → test' (s' + k) ≡ test (s + k)) where
-  first_same : (r : ℕ) → First test s n r → First test' s' n r
-  first_same r f =
-      record {
-        within = f.within;
-        passes = λ h. same r h ∙ f.passes h;
-        before = λ k h. same k (omega (arith, f.within)) ∙ f.before k h;
-      }
+pub first_same : (test test' : ℕ → Bool) (s s' n r : ℕ) → ((k : ℕ) → k < n → test' (s' + k) ≡ test (s + k)) → First test s n r → First test' s' n r
+first_same test test' s s' n r same f =
+    record {
+      within = f.within;
+      passes = λ h. same r h ∙ f.passes h;
+      before = λ k h. same k (omega (arith, f.within)) ∙ f.before k h;
+    }
 
+module _ (test test' : ℕ → Bool) (s s' n : ℕ) (same : (k : ℕ) → k < n → test' (s' + k) ≡ test (s + k)) where
   pub found_same : (r : Option ℕ) → FirstOf test s n r → FirstOf test' s' n r
-  found_same (Some r) f = (f.0, first_same r f.1)
-  found_same None f = first_same n f
+  found_same (Some r) f = (f.0, first_same test test' s s' n r same f.1)
+  found_same None f = first_same test test' s s' n n same f
 
 -- from a run that is counted from 0
 pub found_there : (test test' : ℕ → Bool) (s n : ℕ) (r : Option ℕ) → ((k : ℕ) → k < n → test' (s + k) ≡ test k) → FirstOf test 0 n r → FirstOf test' s n r

@@ -31,7 +31,7 @@ module _ (F : Frame) (m : List ℕ) (slots : List Slot) (s : Strength) (page : �
   unfolding table_fault
   no_table_page t = joined_none _ slot_count 0 (λ k lo hi. rw t refl)
 
-  is_table_page : some (table_faults F m slots s page) ≡ true → table_page F m slots page ≡ true
+  pub is_table_page : some (table_faults F m slots s page) ≡ true → table_page F m slots page ≡ true
   is_table_page h =
       split (table_page F m slots page) (λ t. t) (λ t. absurd (false≢true (sym (ap some (no_table_page t)) ∙ h)))
 

@@ -10,9 +10,9 @@ use lib.ListN.{length, set}
 use borrow.Author.Tests.{ne_eqb}
 use Rattle.std.proofs.lemmas.Option.{none-some, same_Some}
 use Rattle.model.specs.Register.{register_of}
-use Rattle.model.specs.Frame.{lent, index_of}
+use Rattle.model.specs.Frame.{frame_ok, lent, index_of}
 use Rattle.model.specs.Frame as frame
-use Rattle.model.specs.Sound.{Slot, roots, used, sdids, free_pages}
+use Rattle.model.specs.Sound.{Slot, roots, used, sdids, sound, free_pages}
 use Rattle.model.specs.Fence.{no_fence}
 use Rattle.model.specs.Calls.{opened, first_met, slot_at, refuse, open_refusal, open_at, open_slot, close_refusal, close_slot}
 use Rattle.types.specs.declared.Frame.{Frame}
@@ -21,7 +21,7 @@ use Rattle.types.specs.declared.PageNumber.{PageNumber}
 use Rattle.types.specs.declared.Refusal.{Refusal}
 use Rattle.types.specs.declared.Refusal.TheVariants as refusal
 use Rattle.marks.specs.Marks.{Marks}
-use Rattle.scan.specs.Admission.{admission_of, AdmissionIs, Admitted}
+use Rattle.scan.specs.Admission.{admission_of, MarkedFree, Admitted}
 use Rattle.scan.specs.FreeMarks.{marked_pages, listed}
 use Rattle.scan.proofs.Admissions.{not_admitted, admitted}
 use Rattle.scan.proofs.Laws.{free_lent, head_lent, marked_are_free}
@@ -65,19 +65,20 @@ module _ (f : Frame) (m : List ℕ) (slots : List Slot) (s : ℕ) where
     unfolding open_slot open_refusal refuse
     open_not_admitted r h = sym (not_admitted F m slots r _ _ _ h refl)
 
-    module _ (marks : Marks) (admission : AdmissionIs F m slots (Ok marks)) where
+    module _ (one : frame_ok F m ≡ true) (three : sound F m slots ≡ true) where
+      pub open_slot_lem : true ≡ not_empty slots s → outcome_of (refused_outcome refusal.Slot slots) m ≡ open_slot F m slots s sdid
+      unfolding open_slot open_refusal first_met refuse
+      open_slot_lem h = rw (one, three, sym h)
+
+      pub open_sdid : false ≡ not_empty slots s → true ≡ bad_sdid board slots sdid → outcome_of (refused_outcome refusal.Sdid slots) m ≡ open_slot F m slots s sdid
+      unfolding open_slot open_refusal first_met refuse sdids
+      open_sdid four h = rw (one, three, sym four, sym h)
+
+    module _ (marks : Marks) (admission : (admission_of F m slots ≡ None) × MarkedFree F m slots marks) where
       ok : Admitted F m slots marks
       ok = admitted F m slots marks admission
 
-      pub open_slot_lem : true ≡ not_empty slots s → outcome_of (refused_outcome refusal.Slot slots) m ≡ open_slot F m slots s sdid
-      unfolding open_slot open_refusal first_met refuse
-      open_slot_lem h = rw (ok.ok_frame, ok.ok_table, sym h)
-
       module _ (four : false ≡ not_empty slots s) where
-        pub open_sdid : true ≡ bad_sdid board slots sdid → outcome_of (refused_outcome refusal.Sdid slots) m ≡ open_slot F m slots s sdid
-        unfolding open_slot open_refusal first_met refuse sdids
-        open_sdid h = rw (ok.ok_frame, ok.ok_table, sym four, sym h)
-
         -- the free pages are picked from the marks
         module _ (eight : false ≡ bad_sdid board slots sdid) {free : Free} (picked : free ≡ listed (marked_pages F marks)) where
           picked_first : free.first ≡ (listed pages).first
@@ -105,14 +106,11 @@ module _ (f : Frame) (m : List ℕ) (slots : List Slot) (s : ℕ) where
   unfolding close_slot close_refusal refuse
   close_not_admitted r h = sym (not_admitted F m slots r _ _ _ h refl)
 
-  module _ (marks : Marks) (admission : AdmissionIs F m slots (Ok marks)) where
-    found : Admitted F m slots marks
-    found = admitted F m slots marks admission
-
+  module _ (one : frame_ok F m ≡ true) (three : sound F m slots ≡ true) where
     pub close_slot_lem : true ≡ not_open slots s → outcome_of (refused_outcome refusal.Slot slots) m ≡ close_slot F m slots s
     unfolding close_slot close_refusal first_met refuse
-    close_slot_lem h = rw (found.ok_frame, found.ok_table, sym h)
+    close_slot_lem h = rw (one, three, sym h)
 
     pub close_done : false ≡ not_open slots s → outcome_of (closed_at slots s) m ≡ close_slot F m slots s
     unfolding close_slot close_refusal first_met slot_at
-    close_done h = rw (found.ok_frame, found.ok_table, sym h)
+    close_done h = rw (one, three, sym h)

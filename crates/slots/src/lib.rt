@@ -13,18 +13,20 @@ ghost use Rattle.table.specs.Board.{frame_of};
 
 use crate::named::{bad_sdid, not_empty, not_open};
 use crate::zero::zero_page;
+use marks::no_marks;
 use sound::admit;
 use sound::pick::free_pages;
 use table::board::Word;
 use table::{lent, register};
 use types::{Fence, Frame, PageNumber, Refusal, Reply, Sdid};
 
-// What a call leaves, beside the lent memory.
+// What a call leaves, beside the lent memory. The slots come first: behind the small reply a compiler copied them from an odd address, and an open took a
+// quarter longer.
 #[derive(Clone, Copy)]
 pub struct Outcome {
-    pub reply: Result<Reply, Refusal>,
     pub slots: [Word; 8],
     pub fence: Fence,
+    pub reply: Result<Reply, Refusal>,
 }
 
 fn refused(why: Refusal, slots: [Word; 8]) -> Outcome
@@ -79,7 +81,8 @@ fn open_slot(
 ) -> Result<Outcome, Refusal>
     ensures { outcome_of (answered slots result) words.new ≡ calls.open_slot (frame_of f words.old) words.old slots slot sdid.0 }
 {
-    let marks = admit(f, words, slots)?;
+    let mut marks = no_marks();
+    admit(f, words, slots, &mut marks)?;
     if not_empty(slots, slot) {
         return Err(Refusal::Slot);
     }
@@ -119,7 +122,8 @@ fn close_at(slots: [Word; 8], slot: u64) -> Outcome
 fn close_slot(f: Frame, words: &[Word], slots: [Word; 8], slot: u64) -> Result<Outcome, Refusal>
     ensures { outcome_of (answered slots result) words.now ≡ calls.close_slot (frame_of f words.now) words.now slots slot }
 {
-    admit(f, words, slots)?;
+    let mut marks = no_marks();
+    admit(f, words, slots, &mut marks)?;
     if not_open(slots, slot) {
         return Err(Refusal::Slot);
     }

@@ -200,9 +200,10 @@ fn registers(slots: [Word; 8], sdids: &mut Marks) -> bool
 }
 
 // What each call but a lookup asks first: "frame breaks its bounds", and then "table not sound", the registers of the open slots before
-// their tables. If neither fits, the answer marks each lent page exactly when it is free.
-pub fn admit(f: Frame, words: &[Word], slots: [Word; 8]) -> Result<Marks, Refusal>
-    ensures { AdmissionIs (frame_of f words.now) words.now slots result }
+// their tables. If neither fits, each lent page is marked exactly when it is free, whatever marks the caller lent. (They are lent, and no part of the
+// answer: behind a small refusal a compiler copied them from an odd place, on RISC-V by a call of `memcpy`.)
+pub fn admit(f: Frame, words: &[Word], slots: [Word; 8], free: &mut Marks) -> Result<(), Refusal>
+    ensures { AdmissionIs (frame_of f words.now) words.now slots result free.new }
 {
     if !lent::frame_ok(f, words) {
         return Err(Refusal::Frame);
@@ -211,9 +212,9 @@ pub fn admit(f: Frame, words: &[Word], slots: [Word; 8]) -> Result<Marks, Refusa
     if !registers(slots, &mut sdids) {
         return Err(Refusal::NotSound);
     }
-    let mut free = all_marks();
-    if !tables(f, words, slots, &mut free) {
+    *free = all_marks();
+    if !tables(f, words, slots, free) {
         return Err(Refusal::NotSound);
     }
-    Ok(free)
+    Ok(())
 }

@@ -3,10 +3,10 @@ ghost use Rattle.std.specs.Prelude.{◌≡◌, ◌+◌, ◌*◌, ◌%◌, ◌≤
 ghost use Rattle.model.specs.Frame as frame;
 ghost use Rattle.model.specs.Layout.{block_pages, gib_blocks};
 ghost use Rattle.model.specs.Walk as walk;
-ghost use Rattle.types.specs.Range.{Lies, Meets, Cut};
+ghost use Rattle.types.specs.Range.{Fair, Lies, Meets, Cut};
 ghost use Rattle.types.specs.Views.{request_of};
 
-use crate::{Address, Edit, PageNumber, Place};
+use crate::{Address, PageNumber, Place, Request};
 
 // "whole pages of 4,096 bytes"
 pub const PAGE_BYTES: u64 = 4096;
@@ -39,13 +39,13 @@ pub fn pn2(page: PageNumber) -> u64
     page.0 / BLOCK_PAGES
 }
 
-// Where the n pages from page s lie.
-pub fn lies(edit: Edit, s: u64, n: u64) -> Place
-    requires { s + n ≤ 2 ^ 44 }
-    ensures { Lies (request_of edit.q) s n result }
+// Where the n pages from page s lie. A request is enough, here and below, and no whole edit is asked for: neither a frame nor a root says it.
+pub fn lies(q: Request, s: u64, n: u64) -> Place
+    requires { (s + n ≤ 2 ^ 44) × Fair q }
+    ensures { Lies (request_of q) s n result }
 {
-    let start = edit.q.start.0;
-    let end = edit.q.start.0 + edit.q.size;
+    let start = q.start.0;
+    let end = q.start.0 + q.size;
     let low = s * PAGE_BYTES;
     let high = (s + n) * PAGE_BYTES;
     if high <= start {
@@ -64,12 +64,12 @@ pub fn lies(edit: Edit, s: u64, n: u64) -> Place
 }
 
 // One of the n pages from page s lies in the range.
-pub fn meets(edit: Edit, s: u64, n: u64) -> bool
-    requires { (s + n ≤ 2 ^ 44) × (0 < n) }
-    ensures { Meets (request_of edit.q) s n result }
+pub fn meets(q: Request, s: u64, n: u64) -> bool
+    requires { (s + n ≤ 2 ^ 44) × (0 < n) × Fair q }
+    ensures { Meets (request_of q) s n result }
 {
-    let start = edit.q.start.0;
-    let end = edit.q.start.0 + edit.q.size;
+    let start = q.start.0;
+    let end = q.start.0 + q.size;
     if (s + n) * PAGE_BYTES <= start {
         return false;
     }
@@ -88,13 +88,13 @@ pub fn cut(end: u64, s: u64, n: u64) -> u64
 }
 
 // How many blocks from b on lie outside the range, up to the end of their GiB.
-pub fn blocks_outside(edit: Edit, b: u64) -> u64
-    requires { b < 2 ^ 31 }
-    ensures { (b % gib_blocks + result ≤ gib_blocks) × Lies (request_of edit.q) (b * block_pages) (result * block_pages) Place.Outside }
+pub fn blocks_outside(q: Request, b: u64) -> u64
+    requires { (b < 2 ^ 31) × Fair q }
+    ensures { (b % gib_blocks + result ≤ gib_blocks) × Lies (request_of q) (b * block_pages) (result * block_pages) Place.Outside }
 {
     let rest = GIB_BLOCKS - b % GIB_BLOCKS;
-    if edit.q.start.0 + edit.q.size <= b * BLOCK_BYTES {
+    if q.start.0 + q.size <= b * BLOCK_BYTES {
         return rest;
     }
-    cut(edit.q.start.0 / BLOCK_BYTES, b, rest)
+    cut(q.start.0 / BLOCK_BYTES, b, rest)
 }

@@ -1,9 +1,10 @@
 // Kinds of access, what each needs, who may do what, and the cause of a fault.
 ghost use Rattle.std.specs.Prelude.{◌≡◌, ◌<◌};
 ghost use Rattle.model.specs.Access as access;
-ghost use Rattle.types.specs.Views.{permission_number, need_view, access_of, kind_of, cause_number};
+ghost use Rattle.model.specs.Lookup as lookup;
+ghost use Rattle.types.specs.Views.{permission_number, need_view, access_of, kind_of, privilege_of, cause_number};
 
-use crate::{Access, Cause, Kind, Need, Permission};
+use crate::{Access, Cause, Kind, Need, Permission, Privilege};
 
 // "a small table of four permissions by three needs, kept as rows": none, rx, rw, rwx; read, write, execute.
 const MAY_ROWS: [[bool; 3]; 4] = [
@@ -101,4 +102,12 @@ pub fn cause_of(kind: Kind) -> Cause
         Kind::TableRead(a) => Cause::from(a),
         Kind::Update(a) => Cause::from(a),
     }
+}
+
+// A lookup of M is allowed whatever it is of, and walks no table.
+#[tactic(auto, unfolding(model::specs::Lookup::is_machine))]
+pub fn is_machine(privilege: Privilege) -> bool
+    ensures { result ≡ lookup.is_machine (privilege_of privilege) }
+{
+    privilege == Privilege::Machine
 }

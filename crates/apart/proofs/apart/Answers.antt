@@ -8,21 +8,21 @@ use Rattle.scan.proofs.Admissions.{admitted, refused_whatever}
 use Rattle.table.specs.Board.{frame_of}
 use Rattle.apart.proofs.apart.Goals as goal
 
-pub returns-in_err-marks : goal.returns-in_err-marks
+pub returns-in_err-admit : goal.returns-in_err-admit
 unfolding apart_answer apart_refusal
-returns-in_err-marks c =
+returns-in_err-admit c =
     let a = c.args in
     let p = err_from_is_err_and c.from_residual.result c.from_residual.ensures.1 in
-    rw (p.1, p.2) (sym (refused_whatever (frame_of a.f a.words.now) a.words.now a.slots c.in_err-marks.field-0.0 [] _ refused_apart _ c.in_err-marks.ensures refl))
+    rw (p.1, p.2) (sym (refused_whatever (frame_of a.f a.words.now) a.words.now a.slots c.in_err-admit.field-0.0 [] _ refused_apart _ c.in_err-admit.ensures refl))
 
 pub apart_admitted-requires : goal.apart_admitted-requires
 apart_admitted-requires c =
     let a = c.args in
-    admitted (frame_of a.f a.words.now) a.words.now a.slots c.in_ok-marks.marks c.in_ok-marks.ensures
+    admitted (frame_of a.f a.words.now) a.words.now a.slots _ c.in_ok-admit.ensures
 
 pub returns : goal.returns
 unfolding apart_answer apart_refusal first_met
 returns c =
     let a = c.args in
-    let ok = admitted (frame_of a.f a.words.now) a.words.now a.slots c.in_ok-marks.marks c.in_ok-marks.ensures in
+    let ok = admitted (frame_of a.f a.words.now) a.words.now a.slots _ c.in_ok-admit.ensures in
     rw (ok.ok_frame, ok.ok_table) c.apart_admitted.ensures

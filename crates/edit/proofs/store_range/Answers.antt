@@ -1,6 +1,6 @@
 -- `edit::store_range` meets its contract: before each step of the loop the edit stands before block b (`LoopInvariant`), so that the stores that
 -- are left decide the whole; past the last block none is left.
-use Rattle.std.specs.Prelude.{Option, Some, None, IfSome}
+use Rattle.std.specs.Prelude.{Result, Ok, Err, IfOk}
 use mathlib.Core.Path.{refl, sym, ◌∙◌}
 use mathlib.Core.List.{List}
 use Prim.Native.Nat.{ℕ, ◌<◌}
@@ -16,9 +16,9 @@ use Rattle.table.specs.Board.{frame_of}
 use Rattle.forms.proofs.BoardShape.{board_shape}
 use Rattle.edit.proofs.store_range.Goals as goal
 
-gib_small : (F : Frame) (m : List ℕ) (q : Request) (root g : ℕ) (gib : Option ℕ) → GibIs F m q root g gib → IfSome gib (λ p. p < 4)
-gib_small F m q root g (Some p) is = is.2
-gib_small F m q root g None is = tt
+gib_small : (F : Frame) (m : List ℕ) (q : Request) (root g : ℕ) (gib : Result ℕ ℕ) → GibIs F m q root g gib → IfOk gib (λ p. p < 4)
+gib_small F m q root g (Ok p) is = is.2
+gib_small F m q root g (Err p) is = tt
 
 pub loop-b-init : goal.loop-b-init
 loop-b-init c =

@@ -1,14 +1,13 @@
--- `lookup::lookup` meets its contract: each return follows the tests of the definition in their order.
-use denote.Enum.Bare.{sameb}
-use mathlib.Core.Path.{◌≡◌, refl, sym, ◌∙◌}
-use mathlib.Core.Bool.{true}
+-- `lookup::lookup` meets its contract: each return follows the tests of the definition in their order; what M mode and Bare allow is judged as rwx.
+use Rattle.std.specs.Prelude.{if◌then◌else◌}
+use mathlib.Core.Path.{◌≡◌, refl, sym, ap, ◌∙◌}
+use mathlib.Core.Bool.{Bool, true, false}
+use Rattle.model.specs.Entry.{Found, perm}
+use Rattle.model.specs.Access.{Kind, Need, read, write, execute, allowed, may_rows, column_of, may, need_of, judge}
 use Rattle.model.specs.Register.{register_ok}
 use Rattle.model.specs.Frame.{frame_ok}
-use Rattle.model.specs.Lookup.{is_machine, lookup, reads}
-use Rattle.types.specs.Views.{privilege_of}
-use Rattle.types.specs.contracts.Privilege.{the_type}
-use Rattle.types.specs.declared.Privilege.{Privilege}
-use Rattle.types.specs.declared.Privilege.TheVariants.{Machine, Supervisor, User}
+use Rattle.model.specs.Lookup.{lookup, reads}
+use Rattle.types.specs.Views.{kind_of}
 use Rattle.table.specs.Board.{board, frame_of}
 use Rattle.laws.proofs.FrameNumbers.{framed}
 use Rattle.lookup.proofs.lookup.Goals as goal
@@ -21,12 +20,21 @@ frame_passes c = sym c.frame_ok.ensures ∙ c.if-not-frame_ok.false
 register_passes : (c : Else-not-register_ok) → register_ok board c.args.register ≡ true
 register_passes c = sym c.register_ok.ensures ∙ c.if-not-register_ok.false
 
--- the code's test of the privilege is the definition's
-machine_is : (p : Privilege) → is_machine (privilege_of p) ≡ sameb the_type p Machine
-unfolding is_machine
-machine_is Machine = refl
-machine_is Supervisor = refl
-machine_is User = refl
+-- rwx serves every access
+rwx_serves : (n : Need) → may 3 n ≡ true
+unfolding may may_rows column_of
+rwx_serves read = refl
+rwx_serves write = refl
+rwx_serves execute = refl
+
+rwx_allows : (k : Kind) → judge (perm 3) k ≡ allowed
+unfolding judge
+rwx_allows k = rw rwx_serves
+
+judged : (m b : Bool) (w : Found) (k : Kind) → judge (if m then perm 3 else if b then perm 3 else w) k ≡ (if m then allowed else if b then allowed else judge w k)
+judged true b w k = rwx_allows k
+judged false true w k = rwx_allows k
+judged false false w k = refl
 
 pub returns-then-not-frame_ok : goal.returns-then-not-frame_ok
 unfolding lookup
@@ -36,37 +44,11 @@ pub returns-then-not-register_ok : goal.returns-then-not-register_ok
 unfolding lookup
 returns-then-not-register_ok c = rw (frame_passes (goal.at.returns-then-not-register_ok c).Else-not-frame_ok, sym c.register_ok.ensures ∙ c.if-not-register_ok.true)
 
-pub returns-then-eq : goal.returns-then-eq
-unfolding lookup
-returns-then-eq c = rw (frame_passes (goal.at.returns-then-eq c).Else-not-frame_ok, register_passes (goal.at.returns-then-eq c).Else-not-register_ok, machine_is, ← c.eq.ensures, c.if-eq.true)
-
-pub returns-then-is_bare : goal.returns-then-is_bare
-unfolding lookup
-returns-then-is_bare c = rw (
-  frame_passes (goal.at.returns-then-is_bare c).Else-not-frame_ok,
-  register_passes (goal.at.returns-then-is_bare c).Else-not-register_ok,
-  machine_is,
-  ← c.eq.ensures,
-  c.if-eq.false,
-  ← c.is_bare.ensures,
-  c.if-is_bare.true,
-)
-
-pub walk-found-requires : goal.walk-found-requires
-walk-found-requires c = (framed _ _ (frame_passes (goal.at.walk-found-requires c).Else-not-frame_ok)).0
+pub reached-found-requires : goal.reached-found-requires
+reached-found-requires c = (framed _ _ (frame_passes (goal.at.reached-found-requires c).Else-not-frame_ok)).0
 
 pub returns : goal.returns
 unfolding lookup reads
-returns c = rw (
-  frame_passes (goal.at.returns c).Else-not-frame_ok,
-  register_passes (goal.at.returns c).Else-not-register_ok,
-  machine_is,
-  ← c.eq.ensures,
-  c.if-eq.false,
-  ← c.is_bare.ensures,
-  c.if-is_bare.false,
-  ← c.page_of.ensures,
-  ← c.ppn.ensures.0,
-  ← c.walk-found.ensures,
-)
-    (c.judge.ensures _ c.need_of-need.ensures c.cause_of-cause.ensures)
+returns c =
+    rw (frame_passes (goal.at.returns c).Else-not-frame_ok, register_passes (goal.at.returns c).Else-not-register_ok)
+    (c.judge.ensures _ c.need_of-need.ensures c.cause_of-cause.ensures ∙ ap (λ (f : Found). judge f (kind_of c.args.kind)) c.reached-found.ensures ∙ judged _ _ _ _)

@@ -16,8 +16,8 @@ tables-requires c = (framed _ _ (sym c.if-not-frame_ok.ensures)).0
 
 pub returns-then-not-tables : goal.returns-then-not-tables
 returns-then-not-tables c =
-    tables_fail _ _ _ (omega arith) c.if-not-frame_ok.ensures c.all_marks-sdids.ensures c.if-not-registers.ensures c.all_marks-free.ensures c.if-not-tables.ensures
+    tables_fail _ _ _ (omega arith) c.if-not-frame_ok.ensures c.all_marks-sdids.ensures c.if-not-registers.ensures c.all_marks.ensures c.if-not-tables.ensures
 
 pub returns : goal.returns
 returns c =
-    both_pass _ _ _ (omega arith) c.if-not-frame_ok.ensures c.all_marks-sdids.ensures c.if-not-registers.ensures c.all_marks-free.ensures c.if-not-tables.ensures
+    both_pass _ _ _ (omega arith) c.if-not-frame_ok.ensures c.all_marks-sdids.ensures c.if-not-registers.ensures c.all_marks.ensures c.if-not-tables.ensures

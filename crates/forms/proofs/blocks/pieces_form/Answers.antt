@@ -14,7 +14,7 @@ use Rattle.model.specs.Forms.{want_pieces}
 use Rattle.model.specs.Numbers.{pack, every}
 use Rattle.types.specs.Views.{entry_of, request_of}
 use Rattle.forms.proofs.blocks.pieces_form.Goals as goal
-use Rattle.forms.proofs.blocks.pieces_form.Goals.{In-Some}
+use Rattle.forms.proofs.blocks.pieces_form.Goals.{In-Ok}
 
 -- one piece more, the one below those from i on
 module _ (n i : ℕ) (pos : 0 < i) (h : i ≤ n) where
@@ -31,11 +31,11 @@ module _ (n i : ℕ) (pos : 0 < i) (h : i ≤ n) where
   next_every : (t : ℕ → Bool) → every t (n - i) i ≡ true → t (i - 1) ≡ true → every t (n - (i - 1)) (i - 1) ≡ true
   next_every t e z = rw one_more (every_step t (n - i) (i - 1) ∙ and_both z (rw above e))
 
-next_info : (c : In-Some) → let a = c.args in
-    c.in-Some.p + 4 * c.loop-i.info ≡ pack 4 (first_of (frame_of a.edit.f a.words.now) a.words.now (request_of a.edit.q) (entry_of a.block.e) a.block.b) (PIECES - (c.loop-i.i - 1)) (c.loop-i.i - 1)
-next_info c = next_digit PIECES c.loop-i.i c.loop-i-test.true c.loop-i.auto.i _ _ _ c.loop-i.invariant.0 c.in-Some.ensures.0
+next_info : (c : In-Ok) → let a = c.args in
+    c.in-Ok.p + 4 * c.loop-i.info ≡ pack 4 (first_of (frame_of a.edit.f a.words.now) a.words.now (request_of a.edit.q) (entry_of a.block.e) a.block.b) (PIECES - (c.loop-i.i - 1)) (c.loop-i.i - 1)
+next_info c = next_digit PIECES c.loop-i.i c.loop-i-test.true c.loop-i.auto.i _ _ _ c.loop-i.invariant.0 c.in-Ok.ensures.0
 
-next_fits : (c : In-Some) → c.in-Some.p + 4 * c.loop-i.info < PIECE-INFO
+next_fits : (c : In-Ok) → c.in-Ok.p + 4 * c.loop-i.info < PIECE-INFO
 next_fits c =
     rw (next_info c)
     (pack_fits 4 _ (λ k. after_small _ board_shape _ _ c.args.edit.fair.small _ c.requires (c.args.block.b * 8192 + k * PIECE-PAGES)) PIECES (PIECES - (c.loop-i.i - 1)) _ (omega arith))
@@ -45,7 +45,7 @@ unfolding pack every
 loop-i-init c = (refl, refl)
 
 pub returns-in_default : goal.returns-in_default
-returns-in_default c = form_table _ _ _ _ _ (every_fail _ PIECES (c.loop-i.i - 1) (omega arith) c.in_default.ensures)
+returns-in_default c = form_table _ _ _ _ _ (every_fail _ PIECES (c.loop-i.i - 1) (omega arith) (rw c.in_default.ensures.0 at c.in_default.ensures.1))
 
 pub overflow_mul-info : goal.overflow_mul-info
 overflow_mul-info c = record { fits = omega (arith, next_fits c) }
@@ -55,7 +55,7 @@ overflow_add-info c = record { fits = omega (arith, next_fits c) }
 
 pub loop-i-preserved : goal.loop-i-preserved
 loop-i-preserved c =
-    (next_info c, next_every PIECES c.loop-i.i c.loop-i-test.true c.loop-i.auto.i _ c.loop-i.invariant.1 (rw c.in-Some.ensures.0 at c.in-Some.ensures.1))
+    (next_info c, next_every PIECES c.loop-i.i c.loop-i-test.true c.loop-i.auto.i _ c.loop-i.invariant.1 (rw c.in-Ok.ensures.0 at c.in-Ok.ensures.1))
 
 pub returns : goal.returns
 returns c =

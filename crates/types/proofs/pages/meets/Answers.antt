@@ -14,9 +14,9 @@ pub returns : goal.returns
 returns c =
     λ out.
     let a = c.args in
-    let fair = a.edit.fair in
-    let first : ℕ = a.edit.q.start.0 / 4096 in
+    let fair = c.requires.2 in
+    let first : ℕ = a.q.start.0 / 4096 in
     split (leb first a.s)
-    (λ z. let h = leb-true first a.s z in true≢false (sym (in_true (request_of a.edit.q) a.s (omega (arith, fair.starts)) (omega arith)) ∙ out a.s (omega arith) (omega arith)))
+    (λ z. let h = leb-true first a.s z in true≢false (sym (in_true (request_of a.q) a.s (omega (arith, fair.starts)) (omega arith)) ∙ out a.s (omega arith) (omega arith)))
     (λ z. let h = leb-false first a.s z in
-    true≢false (sym (in_true (request_of a.edit.q) first (omega (arith, fair.starts)) (omega (arith, fair.some, fair.starts))) ∙ out first (omega arith) (omega (arith, fair.starts))))
+    true≢false (sym (in_true (request_of a.q) first (omega (arith, fair.starts)) (omega (arith, fair.some, fair.starts))) ∙ out first (omega arith) (omega (arith, fair.starts))))

@@ -1,0 +1,2 @@
+--   Causes   the cause of a fault is a small number
+pub mod Causes
