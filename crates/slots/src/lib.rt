@@ -20,8 +20,7 @@ use table::board::Word;
 use table::{lent, register};
 use types::{Fence, Frame, PageNumber, Refusal, Reply, Sdid};
 
-// What a call leaves, beside the lent memory. The slots come first: behind the small reply a compiler copied them from an odd address, and an open took a
-// quarter longer.
+// What a call leaves, beside the lent memory. The slots come first: behind the small reply a compiler copied them from an odd address, and once more.
 #[derive(Clone, Copy)]
 pub struct Outcome {
     pub slots: [Word; 8],
