@@ -1,5 +1,5 @@
 -- Several blocks of one GiB: their stores, made one block after the other, take the edit on by as many blocks, or the limit cuts the whole edit.
-use Rattle.std.specs.Prelude.{if◌then◌else◌, Result}
+use Rattle.std.specs.Prelude.{if◌then◌else◌, Option}
 use mathlib.Core.Path.{◌≡◌, refl, sym, ap, ap₂, ◌∙◌, subst, subst₂}
 use mathlib.Core.Bool.{Bool}
 use mathlib.Core.List.{List, ◌++◌, head_d, tail}
@@ -15,9 +15,10 @@ use Rattle.model.specs.Layout.{gib_blocks}
 use Rattle.model.specs.Stores.{Store, needs_page, stores_from, new_pages}
 use Rattle.model.specs.Walk.{entry_at}
 use Rattle.types.specs.declared.Budget.{Budget}
-use Rattle.shapes.specs.Blocks.{GibIs, one_in, form_in_gib, stores_in_gib, stores_over, pages_over}
+use Rattle.shapes.specs.Blocks.{form_in_gib, stores_in_gib, stores_over, pages_over}
 use Rattle.shapes.specs.Run.{Out, all_made, limit_reached, run}
 use Rattle.shapes.proofs.RunLaws.{run_none, run_on, run_off}
+use Rattle.sequence.specs.GibBlocks.{OneIs}
 use Rattle.sequence.specs.Prepared.{whole_list}
 use Rattle.sequence.proofs.AtBlock.{AtBlock}
 use Rattle.sequence.proofs.Facts.{Facts}
@@ -32,25 +33,25 @@ module _ {F : Frame} {m0 : List ℕ} {q : Request} {root : ℕ} {free : List ℕ
   Ends b next (all_made l m) = AtBlock k limit m b next l
   Ends b next (limit_reached m) = limit_reached m ≡ run limit (whole_list F m0 q root free) m0
 
-  module _ (gib : Result ℕ ℕ) where
+  module _ (gib : Option ℕ) where
     -- the stores of n blocks, and their new pages, as the edit found them
     abbrev stores : ℕ → ℕ → List ℕ → List Store
-    stores n b fr = stores_over F m0 q root (one_in gib) n b fr
+    stores n b fr = stores_over F m0 q root gib n b fr
 
     abbrev pages : ℕ → ℕ → ℕ
-    pages n b = pages_over F m0 q root (one_in gib) n b
+    pages n b = pages_over F m0 q root gib n b
 
     -- one block, and then n more
-    module _ (n : ℕ) {m : List ℕ} {b next : ℕ} {left : Budget} (s : AtBlock k limit m b next left) (hi : b < end) (gi : GibIs F m0 q root (b / gib_blocks) gib)
+    module _ (n : ℕ) {m : List ℕ} {b next : ℕ} {left : Budget} (s : AtBlock k limit m b next left) (hi : b < end) (gi : OneIs F m0 q root (b / gib_blocks) gib)
         (more : (m' : List ℕ) (next' : ℕ) (l : Budget) → AtBlock k limit m' (b + 1) next' l → Ends (b + 1 + n) (next' + pages n (b + 1)) (run l (stores n (b + 1) (drop next' free)) m')) where
       abbrev fr : List ℕ
       fr = drop next free
 
       abbrev need : Bool
-      need = needs_page (form_in_gib F m0 q root (one_in gib) b) (entry_at F m0 root b)
+      need = needs_page (form_in_gib F m0 q root gib b) (entry_at F m0 root b)
 
       abbrev ss : List Store
-      ss = stores_in_gib F m0 q root (one_in gib) b (head_d fr 0)
+      ss = stores_in_gib F m0 q root gib b (head_d fr 0)
 
       abbrev ts : List Store
       ts = stores n (suc b) (if need then tail fr else fr)
@@ -75,7 +76,7 @@ module _ {F : Frame} {m0 : List ℕ} {q : Request} {root : ℕ} {free : List ℕ
       run_first = go (run left ss m) refl
 
     pub run_gib_blocks : (n : ℕ) {m : List ℕ} {b next : ℕ} {left : Budget} → AtBlock k limit m b next left → b + n ≤ end
-        → ((c : ℕ) → b ≤ c → c < b + n → GibIs F m0 q root (c / gib_blocks) gib) → Ends (b + n) (next + pages n b) (run left (stores n b (drop next free)) m)
+        → ((c : ℕ) → b ≤ c → c < b + n → OneIs F m0 q root (c / gib_blocks) gib) → Ends (b + n) (next + pages n b) (run left (stores n b (drop next free)) m)
     unfolding stores_from new_pages forms_in
     run_gib_blocks zero {m} {b} {next} {left} s hi gi =
         subst (Ends (b + 0) (next + 0)) (sym (run_none left m)) (subst₂ (λ (x y : ℕ). AtBlock k limit m x y left) (sym (add-zero b)) (sym (add-zero next)) s)

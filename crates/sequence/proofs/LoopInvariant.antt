@@ -17,12 +17,12 @@ use Rattle.shapes.specs.Blocks.{GibIs, one_in, stores_over, pages_over}
 use Rattle.shapes.specs.Rooted.{Rooted}
 use Rattle.shapes.specs.Run.{Out, all_made, limit_reached, run}
 use Rattle.shapes.proofs.Order.{ahead_of}
-use Rattle.sequence.specs.GibBlocks.{HasNewPage}
+use Rattle.sequence.specs.GibBlocks.{OneIs, HasNewPage}
 use Rattle.sequence.specs.Prepared.{whole_list}
 use Rattle.sequence.proofs.AtBlock.{AtBlock, at_block_start, gib_back, gib_same, over_same, pages_same, rooted, size}
 use Rattle.sequence.proofs.Facts.{Facts}
 use Rattle.sequence.proofs.GibBlockLaws.{Ends, run_gib_blocks}
-use Rattle.sequence.proofs.NextBlock.{at_block_ahead, at_block_end, has_new_page}
+use Rattle.sequence.proofs.NextBlock.{one_is, at_block_ahead, at_block_end, has_new_page}
 
 pub record LoopInvariant (over : ℕ → Frame) (m0 : List ℕ) (q : Request) (root : ℕ) (free : List ℕ) (limit : Budget) (end : ℕ) (m : List ℕ) (b : ℕ) (gib : Result ℕ ℕ) (next : ℕ) (left : Budget) : Type 0 where
   pub k : Facts (over (length m0)) m0 q root free
@@ -77,8 +77,11 @@ module _ {over : ℕ → Frame} {m0 : List ℕ} {q : Request} {root : ℕ} {free
         found : GibIs F m0 q root (b / gib_blocks) g
         found = gib_back t.at_block (b / gib_blocks) gib_room g (subst (λ (X : Frame). GibIs X m q root (b / gib_blocks) g) (ap over invariant_length) is)
 
-        in_gib : (n : ℕ) → b % gib_blocks + n ≤ gib_blocks → (c : ℕ) → b ≤ c → c < b + n → GibIs F m0 q root (c / gib_blocks) g
-        in_gib n u c lo hi = let x : b / gib_blocks ≡ c / gib_blocks = omega arith in subst (λ (d : ℕ). GibIs F m0 q root d g) x found
+        one : OneIs F m0 q root (b / gib_blocks) (one_in g)
+        one = one_is F m0 q root (b / gib_blocks) g found
+
+        in_gib : (n : ℕ) → b % gib_blocks + n ≤ gib_blocks → (c : ℕ) → b ≤ c → c < b + n → OneIs F m0 q root (c / gib_blocks) (one_in g)
+        in_gib n u c lo hi = let x : b / gib_blocks ≡ c / gib_blocks = omega arith in subst (λ (d : ℕ). OneIs F m0 q root d (one_in g)) x one
 
         same_stores : (n : ℕ) → b % gib_blocks + n ≤ gib_blocks → stores_over (over (length m)) m q root (one_in g) n b (drop next free) ≡ stores_over F m0 q root (one_in g) n b (drop next free)
         same_stores n u =
@@ -86,13 +89,13 @@ module _ {over : ℕ → Frame} {m0 : List ℕ} {q : Request} {root : ℕ} {free
             ∙ over_same t.at_block (one_in g) n b (drop next free) (omega arith) (omega (arith, gib_room))
 
         pub invariant_new_page : HasNewPage (over (length m)) m q root (one_in g) b (head_d (drop next free) 0)
-        invariant_new_page = now' (λ X. HasNewPage X m q root (one_in g) b (head_d (drop next free) 0)) (has_new_page t.at_block (omega (arith, t.is_end)) g found)
+        invariant_new_page = now' (λ X. HasNewPage X m q root (one_in g) b (head_d (drop next free) 0)) (has_new_page t.at_block (omega (arith, t.is_end)) (one_in g) one)
 
         -- the stores of what is left of this GiB are next
         pub invariant_ahead : Ahead m (stores_over (over (length m)) m q root (one_in g) (gib_blocks - b % gib_blocks) b (drop next free))
         invariant_ahead =
             ahead_of (sym (same_stores (gib_blocks - b % gib_blocks) (omega arith)))
-            (at_block_ahead t.at_block g (gib_blocks - b % gib_blocks) (omega (arith, t.is_end)) (in_gib (gib_blocks - b % gib_blocks) (omega arith)))
+            (at_block_ahead t.at_block (one_in g) (gib_blocks - b % gib_blocks) (omega (arith, t.is_end)) (in_gib (gib_blocks - b % gib_blocks) (omega arith)))
 
         -- the blocks ahead of this GiB, as many as the code takes at once
         module _ (n : ℕ) (within : b % gib_blocks + n ≤ gib_blocks) {o : Out} (said : o ≡ run left (stores_over (over (length m)) m q root (one_in g) n b (drop next free)) m) where
@@ -102,7 +105,7 @@ module _ {over : ℕ → Frame} {m0 : List ℕ} {q : Request} {root : ℕ} {free
           ends : Ends' o
           ends =
               subst Ends' (sym (said ∙ ap (λ (l : List Store). run left l m) (same_stores n within)))
-              (run_gib_blocks t.k limit g n t.at_block (omega (arith, t.is_end)) (in_gib n within))
+              (run_gib_blocks t.k limit (one_in g) n t.at_block (omega (arith, t.is_end)) (in_gib n within))
 
           pub invariant_cut : {m' : List ℕ} → o ≡ limit_reached m' → o ≡ run limit (whole_list F m0 q root free) m0
           invariant_cut z = z ∙ subst Ends' z ends
